@@ -7,7 +7,7 @@ ghost use mathlib.Core.Bool.{true, false};
 ghost use mathlib.Core.List.{List};
 ghost use lib.ListN.{length};
 ghost use Rattle.network.specs.Refusals.{refusal-number, numbered};
-ghost use Rattle.network.specs.Tracks.{Limits, ends-at, open-at, state-answer, state-after, are-points, change-answer};
+ghost use Rattle.network.specs.Tracks.{Limits, track-at, ends-at, open-at, state-answer, state-after, are-points, change-answer};
 ghost use Rattle.network.specs.declared.track.Refusal.{Refusal};
 ghost use Rattle.network.specs.declared.track.Track.{Track};
 
@@ -85,4 +85,17 @@ pub fn change(wanted: bool, shut: bool) -> Result<(), Refusal>
     } else {
         Err(Refusal::AlreadyOpen)
     }
+}
+
+// Any network: the track with a number, as one record, or None where there is no such track.
+pub fn track_at<N: Network>(network: &N, number: usize) -> Option<Track>
+    ensures { λ r. ⌜ r ≡ track-at (tracks (now (network .entry))) number ⌝ }
+{
+    let (first, second) = network.ends(number)?;
+    let shut = !network.is_open(number);
+    Some(Track {
+        first,
+        second,
+        shut,
+    })
 }
