@@ -4,10 +4,11 @@
 ghost use mathlib.Core.Path.{_≡_};
 ghost use mathlib.Core.List.{[]};
 ghost use Prim.Native.Nat.{_-_, _≤_, min};
+ghost use lib.ListN.{length};
 ghost use Rattle.std.specs.Of.Vec.{vec-items, vec-len, vec-cap};
 ghost use Rattle.std.specs.Vec.{made, refused};
 ghost use Rattle.network.specs.Refusals.{numbered};
-ghost use Rattle.network.specs.Tracks.{Points};
+ghost use Rattle.network.specs.Tracks.{Points, track-at};
 ghost use Rattle.annex.specs.Annexed.{annexed, annexed-after, add-answer, add-after, own-answer, own-after};
 use network::Network;
 use network::are_points;
@@ -80,6 +81,19 @@ impl<N: Network> Annex<N> {
         self.own.len().min(MOST - below)
     }
 
+    // The own track with a number above those below, or None where it is not shown.
+    fn own_at(&self, track: usize) -> Option<Track>
+        requires { ⌜ length (tracks (now self .below)) ≤ track ⌝ }
+        ensures { λ r. ⌜ r ≡ track-at (annexed (tracks (now (self .entry) .below)) (vec-items (now (self .entry) .own))) track ⌝ }
+    {
+        let below = self.below.count();
+        let place = track - below;
+        if place >= self.shown(below) {
+            return None;
+        }
+        Some(self.own[place])
+    }
+
     // Shuts or reopens the own track at a place among the first `shown`, or refuses and changes nothing.
     fn set_own(&mut self, shown: usize, place: usize, shut: bool) -> Result<(), Refusal>
         requires { ⌜ shown ≤ vec-len (now self .own) ⌝ }
@@ -105,26 +119,21 @@ pub impl<N: Network> Network for Annex<N> as AnnexNetwork {
     }
 
     fn ends(&self, track: usize) -> Option<(u16, u16)> {
-        let below = self.below.count();
-        if track < below {
+        if track < self.below.count() {
             return self.below.ends(track);
         }
-        let place = track - below;
-        if place < self.shown(below) {
-            let own = &self.own[place];
-            Some((own.first, own.second))
-        } else {
-            None
-        }
+        let own = self.own_at(track)?;
+        Some((own.first, own.second))
     }
 
     fn is_open(&self, track: usize) -> bool {
-        let below = self.below.count();
-        if track < below {
+        if track < self.below.count() {
             return self.below.is_open(track);
         }
-        let place = track - below;
-        place < self.shown(below) && !self.own[place].shut
+        match self.own_at(track) {
+            Some(own) => !own.shut,
+            None => false,
+        }
     }
 
     fn set_state(&mut self, track: usize, shut: bool) -> Result<(), Refusal> {

@@ -76,15 +76,6 @@ put-fanned roads states shut k h l =
     ∙ sym (getD-set-other (fanned roads states) k j new no-track e ∙ getD-fanned roads states j near))
     (cases-eq j k))
 
-pub after-fanned : (roads : ℕ) (states : List Bool) (shut : Bool) (k : ℕ) → k < road-tracks roads → k < length states → isOk (answer-of shut (Some (road-track roads states k))) ≡ true → fanned roads (set states k shut) ≡ state-after shut (fanned roads states) k
-after-fanned roads states shut k h l ok =
-    put-fanned roads states shut k h l
-    ∙ sym (ap (λ b. cond b (put-state shut (fanned roads states) k) (fanned roads states)) (ap (λ o. isOk (answer-of shut o)) (at-fanned roads states k h) ∙ ok))
-
-pub same-fanned : (roads : ℕ) (states : List Bool) (shut : Bool) (k : ℕ) → k < road-tracks roads → isOk (answer-of shut (Some (road-track roads states k))) ≡ false → fanned roads states ≡ state-after shut (fanned roads states) k
-same-fanned roads states shut k h ok =
-    sym (ap (λ b. cond b (put-state shut (fanned roads states) k) (fanned roads states)) (ap (λ o. isOk (answer-of shut o)) (at-fanned roads states k h) ∙ ok))
-
 -- where every state is open, every track is
 pub fanned-open : (roads : ℕ) → fanned roads (replicate 766 false) ≡ open-roads roads
 fanned-open roads = each (counting 0 (road-tracks roads))

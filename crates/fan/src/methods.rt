@@ -1,7 +1,10 @@
 // What can be done with a fan.
 ghost use mathlib.Core.Path.{_≡_};
+ghost use mathlib.Core.Bool.{true};
 ghost use Prim.Native.Nat.{_<_};
+ghost use Rattle.std.specs.Options.{isSome};
 ghost use Rattle.network.specs.Refusals.{numbered};
+ghost use Rattle.network.specs.Tracks.{track-at, put-state};
 ghost use Rattle.fan.specs.Roads.{Roads, road-tracks, road-ends, open-roads, size-answer, size-after};
 ghost use Rattle.fan.specs.Fanned.{fan-tracks};
 use crate::Fan;
@@ -9,6 +12,7 @@ use crate::MOST;
 use network::Network;
 use network::change;
 use network::track::Refusal;
+use network::track::Track;
 
 const MOST_ROADS: usize = 256;
 
@@ -36,6 +40,30 @@ impl Fan {
             shut: [false; MOST],
         };
         Ok(())
+    }
+
+    // The track with a number, or None where there is no such track.
+    fn record(&self, track: usize) -> Option<Track>
+        ensures { λ r. ⌜ r ≡ track-at (fan-tracks (now (self .entry))) track ⌝ }
+    {
+        if track >= track_count(self.roads) {
+            return None;
+        }
+        let (first, second) = track_ends(self.roads, track);
+        let shut = self.shut[track];
+        Some(Track {
+            first,
+            second,
+            shut,
+        })
+    }
+
+    // Sets the state of a track that is there.
+    fn put_state(&mut self, track: usize, shut: bool)
+        requires { ⌜ isSome (track-at (fan-tracks (now self)) track) ≡ true ⌝ }
+        ensures { λ _. ⌜ fan-tracks (now (self .exit)) ≡ put-state shut (fan-tracks (now (self .entry))) track ⌝ }
+    {
+        self.shut[track] = shut;
     }
 }
 
@@ -72,22 +100,23 @@ pub impl Network for Fan as FanNetwork {
     }
 
     fn ends(&self, track: usize) -> Option<(u16, u16)> {
-        if track >= track_count(self.roads) {
-            return None;
-        }
-        Some(track_ends(self.roads, track))
+        let record = self.record(track)?;
+        Some((record.first, record.second))
     }
 
     fn is_open(&self, track: usize) -> bool {
-        track < track_count(self.roads) && !self.shut[track]
+        match self.record(track) {
+            Some(record) => !record.shut,
+            None => false,
+        }
     }
 
     fn set_state(&mut self, track: usize, shut: bool) -> Result<(), Refusal> {
-        if track >= track_count(self.roads) {
+        let Some(record) = self.record(track) else {
             return Err(Refusal::NoSuchTrack);
-        }
-        change(shut, self.shut[track])?;
-        self.shut[track] = shut;
+        };
+        change(shut, record.shut)?;
+        self.put_state(track, shut);
         Ok(())
     }
 }

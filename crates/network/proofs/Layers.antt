@@ -7,7 +7,7 @@ use Prim.Native.Nat.{ℕ, _+_, _-_, _<_, _≤_}
 use native.Mathlib.Omega.{arith}
 use lib.Dec.{ltb}
 use lib.ListN.{length, getD, set, take}
-use Rattle.std.specs.Options.{mapped}
+use Rattle.std.specs.Options.{mapped, isSome}
 use Rattle.std.specs.Results.{isOk}
 use Rattle.std.specs.declared.option.Option.{Option}
 use Rattle.std.specs.declared.option.Option.the-variants.{Some, None}
@@ -21,6 +21,14 @@ at-within ts k h = cond-true _ _ _ (lt-ltb k (length ts) h)
 
 pub at-past : (ts : List Track) (k : ℕ) → length ts ≤ k → track-at ts k ≡ None
 at-past ts k h = cond-false _ _ _ (le-ltb k (length ts) h)
+
+-- a track that is found has a number below the count
+pub at-some : (ts : List Track) (k : ℕ) → isSome (track-at ts k) ≡ true → k < length ts
+at-some ts k e =
+    ⊎-elim
+    (λ l. l)
+    (λ l. let no : false ≡ true = sym (ap isSome (at-past ts k l)) ∙ e in let z : _≡_ {A = ℕ} 0 1 = cc in absurd (omega arith))
+    (cases-lt k (length ts))
 
 -- a list that is joined from two
 

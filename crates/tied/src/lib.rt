@@ -67,7 +67,8 @@ impl<N: Network> Tied<N> {
         requires { ⌜ point < 512 ⌝ }
         ensures { λ r. ⌜ r ≡ stand-in (now (self .entry) .stands) point ⌝ }
     {
-        self.stands[point as usize]
+        let place = usize::from(point);
+        self.stands[place]
     }
 }
 

@@ -1,0 +1,3 @@
+// Tests at the bounds and one beyond each, many cases to a test.
+#[cfg(test)]
+mod networks;
