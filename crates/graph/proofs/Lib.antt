@@ -1,0 +1,12 @@
+pub mod Joins
+pub mod Subyards
+pub mod Decide
+pub mod Fronts
+pub mod Cuts
+pub mod Tests
+pub mod Acyclic
+pub mod Names
+pub mod Counting
+pub mod Grouping
+pub mod Parting
+pub mod Classing

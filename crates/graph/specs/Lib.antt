@@ -1,0 +1,6 @@
+pub mod Yards
+pub mod Counts
+pub mod Forests
+pub mod Groups
+pub mod Classes
+pub mod Laws
