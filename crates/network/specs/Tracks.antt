@@ -4,6 +4,7 @@ use mathlib.Core.Bool.{Bool, true, false, cond, not, _&&_}
 use Prim.Native.Nat.{ℕ, _<_, _≤_}
 use lib.ListN.{length, getD, set}
 use lib.Dec.{ltb}
+use Rattle.std.specs.Iters.{counting}
 use Rattle.std.specs.Results.{isOk}
 use Rattle.std.specs.declared.option.Option.{Option}
 use Rattle.std.specs.declared.option.Option.the-variants.{Some, None}
@@ -76,6 +77,10 @@ put-state wanted ts k = set ts k (with-state wanted (getD ts k no-track))
 -- the tracks after a call that is to shut or to reopen the track k: a refused one changes nothing
 abbrev pub state-after : Bool → List Track → ℕ → List Track
 state-after wanted ts k = cond (isOk (state-answer wanted ts k)) (put-state wanted ts k) ts
+
+-- a list of the 512 points, each at its own place
+abbrev pub each-point : List ℕ
+each-point = counting 0 512
 
 -- whether a track may join the two points
 abbrev pub are-points : ℕ → ℕ → Bool

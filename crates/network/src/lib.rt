@@ -7,7 +7,7 @@ ghost use mathlib.Core.Bool.{true, false};
 ghost use mathlib.Core.List.{List};
 ghost use lib.ListN.{length};
 ghost use Rattle.network.specs.Refusals.{refusal-number, numbered};
-ghost use Rattle.network.specs.Tracks.{Limits, track-at, ends-at, open-at, state-answer, state-after, are-points, change-answer};
+ghost use Rattle.network.specs.Tracks.{Limits, track-at, ends-at, open-at, state-answer, state-after, are-points, each-point, change-answer};
 ghost use Rattle.network.specs.declared.track.Refusal.{Refusal};
 ghost use Rattle.network.specs.declared.track.Track.{Track};
 
@@ -15,6 +15,8 @@ pub mod track;
 
 use track::Refusal;
 use track::Track;
+
+pub const POINTS: usize = 512;
 
 pub trait Network {
     // what the network means: its tracks, in rising number
@@ -72,6 +74,17 @@ pub fn are_points(first: u16, second: u16) -> bool
     ensures { λ r. ⌜ r ≡ are-points first second ⌝ }
 {
     first < 512 && second < 512
+}
+
+// The 512 points, each at its own place.
+pub fn each_point() -> [u16; POINTS]
+    ensures { λ r. ⌜ r ≡ each-point ⌝ }
+{
+    let mut points = [0; POINTS];
+    for point in 0..POINTS {
+        points[point] = point as u16;
+    }
+    points
 }
 
 // The answer to a call that is to shut, or else to reopen, a track that is there and is shut or open.

@@ -3,16 +3,11 @@ use mathlib.Core.List.{List, map}
 use mathlib.Core.Bool.{cond}
 use Prim.Native.Nat.{ℕ, _<_}
 use lib.ListN.{length, getD, set}
-use Rattle.std.specs.Iters.{counting}
 use Rattle.std.specs.Results.{isOk}
 use Rattle.std.specs.declared.result.Result.{Result}
 use Rattle.std.specs.declared.result.Result.the-variants.{Ok, Err}
 use Rattle.network.specs.Tracks.{are-points}
 use Rattle.network.specs.declared.track.Track.{Track}
-
--- each of the 512 points stands for itself
-abbrev pub each-itself : List ℕ
-each-itself = counting 0 512
 
 -- the point that stands for a point
 abbrev pub stand-in : List ℕ → ℕ → ℕ

@@ -3,12 +3,13 @@ ghost use mathlib.Core.Path.{_≡_};
 ghost use Prim.Native.Nat.{_<_};
 ghost use lib.ListN.{length};
 ghost use Rattle.network.specs.Refusals.{numbered};
-ghost use Rattle.tied.specs.Standing.{each-itself, stand-in, Standing, tied, tie-answer, tie-after};
+ghost use Rattle.network.specs.Tracks.{each-point};
+ghost use Rattle.tied.specs.Standing.{stand-in, Standing, tied, tie-answer, tie-after};
 use network::Network;
+use network::POINTS;
 use network::are_points;
+use network::each_point;
 use network::track::Refusal;
-
-const POINTS: usize = 512;
 
 #[derive(Drop)]
 pub struct Tied<N> {
@@ -19,25 +20,14 @@ pub struct Tied<N> {
     ghost standing: { Standing stands },
 }
 
-// Each point, standing for itself.
-fn each_itself() -> [u16; POINTS]
-    ensures { λ r. ⌜ r ≡ each-itself ⌝ }
-{
-    let mut stands = [0; POINTS];
-    for point in 0..POINTS {
-        stands[point] = point as u16;
-    }
-    stands
-}
-
 impl<N: Network> Tied<N> {
     // The network below, with each point standing for itself, so that it shows the same tracks.
     pub fn new(below: N) -> Tied<N>
         ensures below { λ r. ⌜ r .below ≡ below ⌝ }
-        ensures stands { λ r. ⌜ r .stands ≡ each-itself ⌝ }
+        ensures stands { λ r. ⌜ r .stands ≡ each-point ⌝ }
         ensures same { λ r. ⌜ tied (r .stands) (tracks (r .below)) ≡ tracks below ⌝ }
     {
-        let stands = each_itself();
+        let stands = each_point();
         Tied { below, stands }
     }
 
