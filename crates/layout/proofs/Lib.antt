@@ -1,0 +1,10 @@
+pub mod Splits
+pub mod Decimals
+pub mod Numbers
+pub mod Letters
+pub mod LineKinds
+pub mod Walks
+pub mod Words
+pub mod Written
+pub mod FileLines
+pub mod Grammars

@@ -1,0 +1,88 @@
+-- The layout as a grammar: which files are plans, how many points they have, and which tracks. Assumes nothing.
+use mathlib.Core.Path.{_≡_}
+use mathlib.Core.List.{List, [], _∷_, _++_}
+use mathlib.Core.Logic.{_⊎_}
+use mathlib.Core.Bool.{true, false}
+use Prim.Native.Nat.{ℕ, suc, _+_, _<_, _≤_}
+use lib.Chars.{codes}
+use lib.Dec.{eqb}
+use lib.ListN.{length, replicate}
+use Rattle.std.specs.declared.result.Result.the-variants.{Ok}
+use Rattle.network.specs.Tracks.{open-track}
+use Rattle.network.specs.declared.track.Track.{Track}
+use Rattle.layout.specs.Layout.{decimal}
+
+-- a text without a line feed
+abbrev pub NoFeed : List ℕ → Type 0
+NoFeed [] = Unit {0}
+NoFeed (b ∷ bs) = (eqb b 10 ≡ false) × NoFeed bs
+
+-- the first line of these bytes, and the bytes after its line feed, which a last line may lack
+pub data FirstLine (bytes line rest : List ℕ) : Type 0 where
+  ended : NoFeed line → bytes ≡ line ++ (10 ∷ rest) → FirstLine bytes line rest
+  last : NoFeed line → bytes ≡ line → rest ≡ [] → FirstLine bytes line rest
+
+-- the lines of a file, of which an empty file has none
+pub data Lines : List ℕ → List (List ℕ) → Type 0 where
+  no-bytes : Lines [] []
+  some-bytes : (bytes line rest : List ℕ) (ls : List (List ℕ)) → 0 < length bytes → FirstLine bytes line rest → Lines rest ls → Lines bytes (line ∷ ls)
+
+-- one or more spaces
+abbrev pub gap : ℕ → List ℕ
+gap k = replicate (suc k) 32
+
+-- nothing, or a space and any text: what may follow a letter or a word
+abbrev pub Apart : List ℕ → Type 0
+Apart rest = (rest ≡ []) ⊎ ((more : List ℕ) × (rest ≡ 32 ∷ more))
+
+-- a line begins with a letter, which is the whole line or has a space after it
+pub record Begins (letter l : List ℕ) : Type 0 where
+  pub rest : List ℕ
+  pub written : l ≡ letter ++ rest
+  pub apart : Apart rest
+
+-- c and any text
+abbrev pub CommentLine : List ℕ → Type 0
+CommentLine l = Begins (codes "c") l
+
+-- p edge N E
+pub record ProblemLine (l : List ℕ) (points edges : ℕ) : Type 0 where
+  pub i : ℕ
+  pub j : ℕ
+  pub k : ℕ
+  pub v : List ℕ
+  pub w : List ℕ
+  pub written : l ≡ codes "p" ++ (gap i ++ (codes "edge" ++ (gap j ++ (v ++ (gap k ++ w)))))
+  pub first : Ok points ≡ decimal v
+  pub second : Ok edges ≡ decimal w
+  pub few-points : points ≤ 512
+  pub few-edges : edges ≤ 2048
+
+-- e U V: the points m and n, counted from 0
+pub record EdgeLine (points : ℕ) (l : List ℕ) (m n : ℕ) : Type 0 where
+  pub j : ℕ
+  pub k : ℕ
+  pub v : List ℕ
+  pub w : List ℕ
+  pub written : l ≡ codes "e" ++ (gap j ++ (v ++ (gap k ++ w)))
+  pub first : Ok (m + 1) ≡ decimal v
+  pub second : Ok (n + 1) ≡ decimal w
+  pub first-point : m < points
+  pub second-point : n < points
+
+-- comments and edges, in any order
+pub data Body (points : ℕ) : List (List ℕ) → List Track → Type 0 where
+  no-line : Body points [] []
+  comment : (l : List ℕ) (ls : List (List ℕ)) (ts : List Track) → CommentLine l → Body points ls ts → Body points (l ∷ ls) ts
+  edge : (l : List ℕ) (ls : List (List ℕ)) (ts : List Track) (m n : ℕ) → EdgeLine points l m n → Body points ls ts → Body points (l ∷ ls) (open-track m n ∷ ts)
+
+-- comments, the problem line, and then comments and as many edges as it says
+pub data Plan : List (List ℕ) → ℕ → List Track → Type 0 where
+  comment : (l : List ℕ) (ls : List (List ℕ)) (points : ℕ) (ts : List Track) → CommentLine l → Plan ls points ts → Plan (l ∷ ls) points ts
+  problem : (l : List ℕ) (ls : List (List ℕ)) (points edges : ℕ) (ts : List Track) → ProblemLine l points edges → Body points ls ts → length ts ≡ edges → Plan (l ∷ ls) points ts
+
+-- a file is a plan with so many points and these tracks
+pub record Says (bytes : List ℕ) (points : ℕ) (ts : List Track) : Type 0 where
+  pub ls : List (List ℕ)
+  pub lines : Lines bytes ls
+  pub plan : Plan ls points ts

@@ -1,0 +1,7 @@
+pub mod Faults
+pub mod Layout
+pub mod Lines
+pub mod Contents
+pub mod Places
+pub mod Plans
+pub mod Grammar
