@@ -18,7 +18,7 @@ use Rattle.layout.specs.declared.faults.LineFault.the-variants.{UnknownKind, O
 use Rattle.layout.specs.declared.line.Place.{Place}
 use Rattle.layout.specs.declared.line.Place.the-variants.{Start, Within}
 use Rattle.layout.specs.Layout.{first-of, rest-of, numbers-of}
-use Rattle.layout.specs.Lines.{line-of, by-letter, parted, problem-line, problem-at, problem-of, edge-line, edge-of}
+use Rattle.layout.specs.Lines.{comment, line-of, by-letter, parted, problem-line, problem-at, problem-of, edge-line, edge-of}
 use Rattle.layout.proofs.Numbers.{first-none, first-some}
 
 -- what follows the first byte, as the code takes it
@@ -39,6 +39,12 @@ pub line-at : (place : Place) (l : List ℕ) (k : ℕ) → 0 < length l → true
 line-at place l k h e p =
     line-split place l h ∙ cond-true (parted (past-letter l)) (by-letter place (getD l 0 0) (past-letter l)) (Err UnknownKind) (sym e)
     ∙ ap (λ b. by-letter place b (past-letter l)) (sym p)
+
+-- a comment is the whole line
+pub line-comment : (place : Place) (l : List ℕ) → 0 < length l → true ≡ parted (past-letter l) → 99 ≡ getD l 0 0 → line-of place l ≡ Ok (comment l)
+line-comment place [] h e p = absurd (omega arith)
+line-comment place (b ∷ bs) h e p =
+    line-at place (b ∷ bs) 99 h e p ∙ ap (λ x. Ok (comment (x ∷ past-letter (b ∷ bs)))) p ∙ ap (λ r. Ok (comment (b ∷ r))) (take-rest (b ∷ bs) 1)
 
 pub no-word : (place : Place) (fs gs : List (List ℕ)) → gs ≡ fs → None ≡ first-of gs → Err UnknownKind ≡ problem-line place fs
 no-word place fs gs q v = sym (ap (problem-line place) (sym q ∙ first-none gs v))

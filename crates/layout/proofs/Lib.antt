@@ -7,4 +7,5 @@ pub mod Walks
 pub mod Words
 pub mod Written
 pub mod FileLines
+pub mod Parts
 pub mod Grammars

@@ -68,7 +68,7 @@ pub walk-end : (ls : List (List ℕ)) (place : Place) (n : ℕ) → Ok None ≡ 
 walk-end [] place n e = end-whole (complete place) (points-of place) (placed OutOfPlace n) e
 walk-end (l ∷ ls) place n e = none-never n (walk (l ∷ ls) place n) (Ok (points-of place, [])) (line-of place l) e
 
-next-line-is : (s : Content) (n : ℕ) (r : Result Content LineFault) → Ok (Some s) ≡ next-of r n → Ok s ≡ r
+pub next-line-is : (s : Content) (n : ℕ) (r : Result Content LineFault) → Ok (Some s) ≡ next-of r n → Ok s ≡ r
 next-line-is s n (Ok t) e = cc
 next-line-is s n (Err x) e = cc
 

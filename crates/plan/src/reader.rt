@@ -1,0 +1,18 @@
+// A plan that is read line by line.
+ghost use Prim.Native.Nat.{_+_, _≤_};
+ghost use Rattle.layout.specs.Places.{Sound};
+use layout::line::Place;
+
+mod methods;
+
+#[derive(Drop)]
+pub struct Reader<'a> {
+    bytes: &'a [u8],
+    // where the next line begins
+    at: usize,
+    // the number of the next line, from 1
+    number: usize,
+    place: Place,
+    ghost counted: { number ≤ at + 1 },
+    ghost sound: { Sound place },
+}
