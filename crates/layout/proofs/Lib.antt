@@ -9,3 +9,5 @@ pub mod Written
 pub mod FileLines
 pub mod Parts
 pub mod Grammars
+pub mod LineFaults
+pub mod Law

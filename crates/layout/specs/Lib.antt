@@ -5,3 +5,4 @@ pub mod Contents
 pub mod Places
 pub mod Plans
 pub mod Grammar
+pub mod FileFaults

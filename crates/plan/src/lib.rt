@@ -6,6 +6,7 @@ ghost use mathlib.Core.Path.{_≡_};
 ghost use mathlib.Core.List.{[]};
 ghost use mathlib.Core.Bool.{true};
 ghost use Rattle.std.specs.Results.{isOk};
+ghost use Rattle.layout.specs.FileFaults.{Answered};
 ghost use Rattle.layout.specs.Plans.{plan-of, answer-to, planned};
 ghost use Rattle.table.specs.Laying.{table-tracks};
 use layout::faults::FileFault;
@@ -38,6 +39,7 @@ fn lay_plan(bytes: &[u8], table: &mut Table) -> Result<u16, FileFault>
 pub fn read_plan(bytes: &[u8], table: &mut Table) -> Result<u16, FileFault>
     ensures value { λ r. ⌜ r ≡ answer-to (plan-of (now (bytes .entry))) ⌝ }
     ensures tracks { λ _. ⌜ table-tracks (now (table .exit)) ≡ planned (plan-of (now (bytes .entry))) ⌝ }
+    ensures law { λ r. ⌜ Answered (now (bytes .entry)) r (table-tracks (now (table .exit))) ⌝ }
 {
     table.clear();
     let answer = lay_plan(bytes, table);
