@@ -1,6 +1,7 @@
 pub mod Splits
 pub mod Decimals
 pub mod Numbers
+pub mod Numerals
 pub mod Letters
 pub mod LineKinds
 pub mod Walks

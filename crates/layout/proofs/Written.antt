@@ -25,6 +25,7 @@ use Rattle.layout.specs.Layout.{fields, decimal, between, number-of, numbers-o
 use Rattle.layout.specs.Lines.{Content, comment, problem, edge, line-of, by-letter, parted, problem-line, problem-at, problem-of, edge-line, edge-of}
 use Rattle.layout.specs.Grammar.{gap, Apart, Begins, CommentLine, ProblemLine, EdgeLine}
 use Rattle.layout.proofs.Numbers.{numbers-within}
+use Rattle.layout.proofs.Numerals.{numeral-back, numeral-forth}
 use Rattle.layout.proofs.Words.{field-first, field-last, field-back, fields-none, decimal-word}
 use Rattle.layout.proofs.LineKinds.{cond-split, line-kinds, kind, problem-kind, edge-kind, problem-of-is, edge-of-is}
 
@@ -143,8 +144,8 @@ problem-rest place l rest m n e p q =
       v = t .v;
       w = t .w;
       written = e ∙ ap (λ x. 112 ∷ x) (f .written ∙ ap (λ x. gap (f .k) ++ (codes "edge" ++ x)) (g .is));
-      first = t .first;
-      second = t .second;
+      first = numeral-back (t .v) m (t .first);
+      second = numeral-back (t .w) n (t .second);
       few-points = h .0 .1;
       few-edges = h .1 .1;
     }
@@ -159,12 +160,14 @@ problem-written place l m n e =
 
 pub problem-reads : (l : List ℕ) (m n : ℕ) → ProblemLine l m n → line-of Start l ≡ Ok (problem m n)
 problem-reads l m n s =
+    let first = numeral-forth (s .v) m (s .first) in
+    let second = numeral-forth (s .w) n (s .second) in
     let words = field-first (s .i) (codes "edge") (gap (s .j) ++ (s .v ++ (gap (s .k) ++ s .w))) (refl, (refl, (refl, (refl, tt)))) (omega arith) refl
-    ∙ ap (λ x. codes "edge" ∷ x) (two-words (s .j) (s .k) m n (s .v) (s .w) (s .first) (s .second)) in
+    ∙ ap (λ x. codes "edge" ∷ x) (two-words (s .j) (s .k) m n (s .v) (s .w) first second) in
     let low : 0 ≤ m = omega arith in
     let also : 0 ≤ n = omega arith in
     ap (line-of Start) (s .written) ∙ ap (problem-line Start) words
-    ∙ sym (ap problem-of (numbers-forth 0 512 2048 m n (s .v) (s .w) (low, s .few-points) (also, s .few-edges) (s .first) (s .second)))
+    ∙ sym (ap problem-of (numbers-forth 0 512 2048 m n (s .v) (s .w) (low, s .few-points) (also, s .few-edges) first second))
 
 -- edges
 
@@ -192,8 +195,8 @@ edge-rest points edges laid m n l rest e p q =
       v = t .v;
       w = t .w;
       written = e ∙ ap (λ x. 101 ∷ x) (g .is);
-      first = t .first;
-      second = t .second;
+      first = numeral-back (t .v) (m + 1) (t .first);
+      second = numeral-back (t .w) (n + 1) (t .second);
       first-point = omega (arith, h .0 .1);
       second-point = omega (arith, h .1 .1);
     }
@@ -208,7 +211,9 @@ edge-written points edges laid m n l e =
 
 pub edge-reads : (points edges laid m n : ℕ) (l : List ℕ) → laid < edges → EdgeLine points l m n → line-of (Within points edges laid) l ≡ Ok (edge m n)
 edge-reads points edges laid m n l h s =
-    let words = two-words (s .j) (s .k) (m + 1) (n + 1) (s .v) (s .w) (s .first) (s .second) in
+    let first = numeral-forth (s .v) (m + 1) (s .first) in
+    let second = numeral-forth (s .w) (n + 1) (s .second) in
+    let words = two-words (s .j) (s .k) (m + 1) (n + 1) (s .v) (s .w) first second in
     let f : 1 ≤ m + 1 = omega arith in
     let g : m + 1 ≤ points = omega (arith, s .first-point) in
     let f′ : 1 ≤ n + 1 = omega arith in
@@ -217,5 +222,5 @@ edge-reads points edges laid m n l h s =
     let y : n + 1 - 1 ≡ n = omega arith in
     ap (line-of (Within points edges laid)) (s .written) ∙ ap (edge-line (Within points edges laid)) words
     ∙ cond-true (ltb laid edges) (edge-of (numbers-of 1 points points (s .v ∷ s .w ∷ []))) (Err OutOfPlace) (lt-ltb laid edges h)
-    ∙ sym (ap edge-of (numbers-forth 1 points points (m + 1) (n + 1) (s .v) (s .w) (f, g) (f′, g′) (s .first) (s .second)))
+    ∙ sym (ap edge-of (numbers-forth 1 points points (m + 1) (n + 1) (s .v) (s .w) (f, g) (f′, g′) first second))
     ∙ ap (λ a. Ok (edge a (n + 1 - 1))) x ∙ ap (λ a. Ok (edge m a)) y

@@ -3,14 +3,12 @@ use mathlib.Core.Path.{_≡_}
 use mathlib.Core.List.{List, [], _∷_, _++_}
 use mathlib.Core.Logic.{_⊎_}
 use mathlib.Core.Bool.{true, false}
-use Prim.Native.Nat.{ℕ, suc, _+_, _<_, _≤_}
+use Prim.Native.Nat.{ℕ, suc, _+_, _*_, _<_, _≤_}
 use lib.Chars.{codes}
 use lib.Dec.{eqb}
 use lib.ListN.{length, replicate}
-use Rattle.std.specs.declared.result.Result.the-variants.{Ok}
 use Rattle.network.specs.Tracks.{open-track}
 use Rattle.network.specs.declared.track.Track.{Track}
-use Rattle.layout.specs.Layout.{decimal}
 
 -- a text without a line feed
 abbrev pub NoFeed : List ℕ → Type 0
@@ -45,7 +43,18 @@ pub record Begins (letter l : List ℕ) : Type 0 where
 abbrev pub CommentLine : List ℕ → Type 0
 CommentLine l = Begins (codes "c") l
 
--- p edge N E
+-- decimal digits, and the number that they write
+pub data Digits : List ℕ → ℕ → Type 0 where
+  no-digit : Digits [] 0
+  one-more : (v : List ℕ) (n d : ℕ) → Digits v n → d < 10 → Digits (v ++ (48 + d) ∷ []) (n * 10 + d)
+
+-- a number is written in 1 to 4 digits, and zeros may lead
+pub record Numeral (v : List ℕ) (n : ℕ) : Type 0 where
+  pub digits : Digits v n
+  pub some : 1 ≤ length v
+  pub few : length v ≤ 4
+
+-- p edge N E: N is at most 512 and E at most 2048
 pub record ProblemLine (l : List ℕ) (points edges : ℕ) : Type 0 where
   pub i : ℕ
   pub j : ℕ
@@ -53,20 +62,20 @@ pub record ProblemLine (l : List ℕ) (points edges : ℕ) : Type 0 where
   pub v : List ℕ
   pub w : List ℕ
   pub written : l ≡ codes "p" ++ (gap i ++ (codes "edge" ++ (gap j ++ (v ++ (gap k ++ w)))))
-  pub first : Ok points ≡ decimal v
-  pub second : Ok edges ≡ decimal w
+  pub first : Numeral v points
+  pub second : Numeral w edges
   pub few-points : points ≤ 512
   pub few-edges : edges ≤ 2048
 
--- e U V: the points m and n, counted from 0
+-- e U V: the points m and n of those that there are, which the file counts from 1 and we from 0
 pub record EdgeLine (points : ℕ) (l : List ℕ) (m n : ℕ) : Type 0 where
   pub j : ℕ
   pub k : ℕ
   pub v : List ℕ
   pub w : List ℕ
   pub written : l ≡ codes "e" ++ (gap j ++ (v ++ (gap k ++ w)))
-  pub first : Ok (m + 1) ≡ decimal v
-  pub second : Ok (n + 1) ≡ decimal w
+  pub first : Numeral v (m + 1)
+  pub second : Numeral w (n + 1)
   pub first-point : m < points
   pub second-point : n < points
 
