@@ -9,7 +9,7 @@ use native.Mathlib.Omega.{arith}
 use lib.Dec.{eqb}
 use lib.ListN.{length, take, drop}
 use Rattle.std.proofs.shelf.Lists.{take-at, take-all, drop-all, take-append-drop, length-drop}
-use Rattle.std.proofs.shelf.Tests.{cases-lt, cases-bool}
+use Rattle.std.proofs.shelf.Tests.{cases-lt, cases-bool, eqb-false, ne-eqb}
 use Rattle.layout.specs.Layout.{lines, past-line}
 use Rattle.layout.specs.Grammar.{NoFeed, FirstLine, Lines}
 use Rattle.layout.specs.Grammar as grammar
@@ -17,11 +17,11 @@ use Rattle.layout.proofs.Splits.{to, lines-past, past-is, drop-to}
 
 to-feed : (l r : List ℕ) → NoFeed l → to 10 (l ++ (10 ∷ r)) ≡ length l
 to-feed [] r h = refl
-to-feed (b ∷ bs) r h = rw (h .0) (one-add (to 10 (bs ++ (10 ∷ r))) ∙ ap suc (to-feed bs r (h .1)))
+to-feed (b ∷ bs) r h = rw (ne-eqb b 10 (h .0)) (one-add (to 10 (bs ++ (10 ∷ r))) ∙ ap suc (to-feed bs r (h .1)))
 
 to-none : (l : List ℕ) → NoFeed l → to 10 l ≡ length l
 to-none [] h = refl
-to-none (b ∷ bs) h = rw (h .0) (one-add (to 10 bs) ∙ ap suc (to-none bs (h .1)))
+to-none (b ∷ bs) h = rw (ne-eqb b 10 (h .0)) (one-add (to 10 bs) ∙ ap suc (to-none bs (h .1)))
 
 past-feed : (l r : List ℕ) → drop (suc (length l)) (l ++ (10 ∷ r)) ≡ r
 past-feed [] r = refl
@@ -31,7 +31,7 @@ no-feed : (l : List ℕ) → NoFeed (take (to 10 l) l)
 no-feed [] = tt
 no-feed (b ∷ bs) = elim (cases-bool (eqb b 10)) [
   | inl e ↦ rw e tt
-  | inr e ↦ let h : NoFeed (take (suc (to 10 bs)) (b ∷ bs)) = (e, no-feed bs) in rw (e, one-add (to 10 bs)) h
+  | inr e ↦ let h : NoFeed (take (suc (to 10 bs)) (b ∷ bs)) = (eqb-false b 10 e, no-feed bs) in rw (e, one-add (to 10 bs)) h
 ]
 
 -- what is taken up to a line feed is the first line

@@ -36,7 +36,7 @@ names-or place l rest z (w ∷ ns) m p e q =
       | inl r ↦
           let f = field-back rest w ns p e in
           let word = sameBytes-decides w (codes "edge") .0 (r .0) in
-          inl (record { k = f .k; rest = f .r; written = m ∙ ap (λ x. 112 ∷ x) (f .written ∙ ap (λ x. gap (f .k) ++ (x ++ f .r)) word); apart = apart-back (f .r) (f .apart) })
+          inl (record { before-word = f .k; rest = f .r; written = m ∙ ap (λ x. 112 ∷ x) (f .written ∙ ap (λ x. gap (f .k) ++ (x ++ f .r)) word); apart = apart-back (f .r) (f .apart) })
       | inr r ↦ inr (r .1)
     ]
 
@@ -53,7 +53,7 @@ known-or place l =
 names-reads : (place : Place) (l : List ℕ) (s : NamesEdge l) → line-of place l ≡ problem-at place (fields (s .rest))
 names-reads place l s =
     ap (line-of place) (s .written)
-    ∙ ap (problem-line place) (field-first (s .k) (codes "edge") (s .rest) (refl, (refl, (refl, (refl, tt)))) (omega arith) (apart-forth (s .rest) (s .apart)))
+    ∙ ap (problem-line place) (field-first (s .before-word) (codes "edge") (s .rest) (refl, (refl, (refl, (refl, tt)))) (omega arith) (apart-forth (s .rest) (s .apart)))
 
 -- how a line is read that begins with e
 edge-begins : (place : Place) (l : List ℕ) (s : Begins (codes "e") l) → line-of place l ≡ edge-line place (fields (s .rest))

@@ -182,8 +182,7 @@ line-read l rest at n step h e k le way =
     let p = lines-past (drop at l) (omega arith) in
     let m : n ≡ to 10 (drop at l) = k ∙ ap (to 10) e in
     let w = subst (λ r. ((n < length r) × (step ≡ n + 1)) ⊎ ((length r ≤ n) × (step ≡ n))) e way in
-    let b = subst (λ r. n ≤ length r) e le in
-    (
+    let b = subst (λ r. n ≤ length r) e le in (
       p ∙ sym (ap (λ r. take n r ∷ lines (past-line (drop at l))) e ∙ ap (λ i. take i (drop at l) ∷ lines (past-line (drop at l))) m),
       step-over l at n step b w ∙ ap (λ i. drop (suc i) (drop at l)) m ∙ sym (past-is (drop at l)),
     )

@@ -130,6 +130,10 @@ problem-back place m n (w ∷ ns) e =
       | inr q ↦ let y = q .1 in let z : _≡_ {A = ℕ} 0 1 = cc in absurd (omega arith)
     ]
 
+problem-text : (l rest numbers v w : List ℕ) (i j k : ℕ) → l ≡ 112 ∷ rest → rest ≡ gap i ++ (codes "edge" ++ numbers) → numbers ≡ gap j ++ (v ++ (gap k ++ w))
+    → l ≡ codes "p" ++ (gap i ++ (codes "edge" ++ (gap j ++ (v ++ (gap k ++ w)))))
+problem-text l rest numbers v w i j k e p q = e ∙ ap (λ x. 112 ∷ x) (p ∙ ap (λ x. gap i ++ (codes "edge" ++ x)) q)
+
 problem-rest : (place : Place) (l rest : List ℕ) (m n : ℕ) → l ≡ 112 ∷ rest → parted rest ≡ true → Ok (problem m n) ≡ problem-line place (fields rest) → ProblemLine l m n
 problem-rest place l rest m n e p q =
     let b = problem-back place m n (fields rest) q in
@@ -138,14 +142,14 @@ problem-rest place l rest m n e p q =
     let h = numbers-within 0 512 2048 m n (b .ns) (b .numbers) in
     let g = two-back (f .r) (t .v) (t .w) (f .apart) (f .others ∙ t .are) in
     record {
-      i = f .k;
-      j = g .j;
-      k = g .k;
-      v = t .v;
-      w = t .w;
-      written = e ∙ ap (λ x. 112 ∷ x) (f .written ∙ ap (λ x. gap (f .k) ++ (codes "edge" ++ x)) (g .is));
-      first = numeral-back (t .v) m (t .first);
-      second = numeral-back (t .w) n (t .second);
+      before-word = f .k;
+      before-first = g .j;
+      before-second = g .k;
+      first = t .v;
+      second = t .w;
+      written = problem-text l rest (f .r) (t .v) (t .w) (f .k) (g .j) (g .k) e (f .written) (g .is);
+      first-is = numeral-back (t .v) m (t .first);
+      second-is = numeral-back (t .w) n (t .second);
       few-points = h .0 .1;
       few-edges = h .1 .1;
     }
@@ -160,14 +164,14 @@ problem-written place l m n e =
 
 pub problem-reads : (l : List ℕ) (m n : ℕ) → ProblemLine l m n → line-of Start l ≡ Ok (problem m n)
 problem-reads l m n s =
-    let first = numeral-forth (s .v) m (s .first) in
-    let second = numeral-forth (s .w) n (s .second) in
-    let words = field-first (s .i) (codes "edge") (gap (s .j) ++ (s .v ++ (gap (s .k) ++ s .w))) (refl, (refl, (refl, (refl, tt)))) (omega arith) refl
-    ∙ ap (λ x. codes "edge" ∷ x) (two-words (s .j) (s .k) m n (s .v) (s .w) first second) in
+    let first = numeral-forth (s .first) m (s .first-is) in
+    let second = numeral-forth (s .second) n (s .second-is) in
+    let words = field-first (s .before-word) (codes "edge") (gap (s .before-first) ++ (s .first ++ (gap (s .before-second) ++ s .second))) (refl, (refl, (refl, (refl, tt)))) (omega arith) refl
+    ∙ ap (λ x. codes "edge" ∷ x) (two-words (s .before-first) (s .before-second) m n (s .first) (s .second) first second) in
     let low : 0 ≤ m = omega arith in
     let also : 0 ≤ n = omega arith in
     ap (line-of Start) (s .written) ∙ ap (problem-line Start) words
-    ∙ sym (ap problem-of (numbers-forth 0 512 2048 m n (s .v) (s .w) (low, s .few-points) (also, s .few-edges) first second))
+    ∙ sym (ap problem-of (numbers-forth 0 512 2048 m n (s .first) (s .second) (low, s .few-points) (also, s .few-edges) first second))
 
 -- edges
 
@@ -190,13 +194,13 @@ edge-rest points edges laid m n l rest e p q =
     let h = numbers-within 1 points points (m + 1) (n + 1) (fields rest) b in
     let g = two-back rest (t .v) (t .w) p (t .are) in
     record {
-      j = g .j;
-      k = g .k;
-      v = t .v;
-      w = t .w;
+      before-first = g .j;
+      before-second = g .k;
+      first = t .v;
+      second = t .w;
       written = e ∙ ap (λ x. 101 ∷ x) (g .is);
-      first = numeral-back (t .v) (m + 1) (t .first);
-      second = numeral-back (t .w) (n + 1) (t .second);
+      first-is = numeral-back (t .v) (m + 1) (t .first);
+      second-is = numeral-back (t .w) (n + 1) (t .second);
       first-point = omega (arith, h .0 .1);
       second-point = omega (arith, h .1 .1);
     }
@@ -211,9 +215,9 @@ edge-written points edges laid m n l e =
 
 pub edge-reads : (points edges laid m n : ℕ) (l : List ℕ) → laid < edges → EdgeLine points l m n → line-of (Within points edges laid) l ≡ Ok (edge m n)
 edge-reads points edges laid m n l h s =
-    let first = numeral-forth (s .v) (m + 1) (s .first) in
-    let second = numeral-forth (s .w) (n + 1) (s .second) in
-    let words = two-words (s .j) (s .k) (m + 1) (n + 1) (s .v) (s .w) first second in
+    let first = numeral-forth (s .first) (m + 1) (s .first-is) in
+    let second = numeral-forth (s .second) (n + 1) (s .second-is) in
+    let words = two-words (s .before-first) (s .before-second) (m + 1) (n + 1) (s .first) (s .second) first second in
     let f : 1 ≤ m + 1 = omega arith in
     let g : m + 1 ≤ points = omega (arith, s .first-point) in
     let f′ : 1 ≤ n + 1 = omega arith in
@@ -221,6 +225,6 @@ edge-reads points edges laid m n l h s =
     let x : m + 1 - 1 ≡ m = omega arith in
     let y : n + 1 - 1 ≡ n = omega arith in
     ap (line-of (Within points edges laid)) (s .written) ∙ ap (edge-line (Within points edges laid)) words
-    ∙ cond-true (ltb laid edges) (edge-of (numbers-of 1 points points (s .v ∷ s .w ∷ []))) (Err OutOfPlace) (lt-ltb laid edges h)
-    ∙ sym (ap edge-of (numbers-forth 1 points points (m + 1) (n + 1) (s .v) (s .w) (f, g) (f′, g′) first second))
+    ∙ cond-true (ltb laid edges) (edge-of (numbers-of 1 points points (s .first ∷ s .second ∷ []))) (Err OutOfPlace) (lt-ltb laid edges h)
+    ∙ sym (ap edge-of (numbers-forth 1 points points (m + 1) (n + 1) (s .first) (s .second) (f, g) (f′, g′) first second))
     ∙ ap (λ a. Ok (edge a (n + 1 - 1))) x ∙ ap (λ a. Ok (edge m a)) y

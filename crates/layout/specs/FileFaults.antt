@@ -15,9 +15,9 @@ use Rattle.layout.specs.Grammar.{Lines, gap, Apart, Begins, CommentLine, Probl
 
 -- p, one or more spaces, the word edge, and then nothing or a space
 pub record NamesEdge (l : List ℕ) : Type 0 where
-  pub k : ℕ
+  pub before-word : ℕ
   pub rest : List ℕ
-  pub written : l ≡ codes "p" ++ (gap k ++ (codes "edge" ++ rest))
+  pub written : l ≡ codes "p" ++ (gap before-word ++ (codes "edge" ++ rest))
   pub apart : Apart rest
 
 -- the known kinds of line

@@ -2,10 +2,8 @@
 use mathlib.Core.Path.{_≡_}
 use mathlib.Core.List.{List, [], _∷_, _++_}
 use mathlib.Core.Logic.{_⊎_}
-use mathlib.Core.Bool.{true, false}
 use Prim.Native.Nat.{ℕ, suc, _+_, _*_, _<_, _≤_}
 use lib.Chars.{codes}
-use lib.Dec.{eqb}
 use lib.ListN.{length, replicate}
 use Rattle.network.specs.Tracks.{open-track}
 use Rattle.network.specs.declared.track.Track.{Track}
@@ -13,7 +11,7 @@ use Rattle.network.specs.declared.track.Track.{Track}
 -- a text without a line feed
 abbrev pub NoFeed : List ℕ → Type 0
 NoFeed [] = Unit {0}
-NoFeed (b ∷ bs) = (eqb b 10 ≡ false) × NoFeed bs
+NoFeed (b ∷ bs) = (b ≡ 10 → ⊥) × NoFeed bs
 
 -- the first line of these bytes, and the bytes after its line feed, which a last line may lack
 pub data FirstLine (bytes line rest : List ℕ) : Type 0 where
@@ -25,7 +23,7 @@ pub data Lines : List ℕ → List (List ℕ) → Type 0 where
   no-bytes : Lines [] []
   some-bytes : (bytes line rest : List ℕ) (ls : List (List ℕ)) → 0 < length bytes → FirstLine bytes line rest → Lines rest ls → Lines bytes (line ∷ ls)
 
--- one or more spaces
+-- one or more spaces: one, and k more
 abbrev pub gap : ℕ → List ℕ
 gap k = replicate (suc k) 32
 
@@ -56,26 +54,26 @@ pub record Numeral (v : List ℕ) (n : ℕ) : Type 0 where
 
 -- p edge N E: N is at most 512 and E at most 2048
 pub record ProblemLine (l : List ℕ) (points edges : ℕ) : Type 0 where
-  pub i : ℕ
-  pub j : ℕ
-  pub k : ℕ
-  pub v : List ℕ
-  pub w : List ℕ
-  pub written : l ≡ codes "p" ++ (gap i ++ (codes "edge" ++ (gap j ++ (v ++ (gap k ++ w)))))
-  pub first : Numeral v points
-  pub second : Numeral w edges
+  pub before-word : ℕ
+  pub before-first : ℕ
+  pub before-second : ℕ
+  pub first : List ℕ
+  pub second : List ℕ
+  pub written : l ≡ codes "p" ++ (gap before-word ++ (codes "edge" ++ (gap before-first ++ (first ++ (gap before-second ++ second)))))
+  pub first-is : Numeral first points
+  pub second-is : Numeral second edges
   pub few-points : points ≤ 512
   pub few-edges : edges ≤ 2048
 
--- e U V: the points m and n of those that there are, which the file counts from 1 and we from 0
+-- e U V: two points of those that there are, which the file counts from 1, and m and n from 0
 pub record EdgeLine (points : ℕ) (l : List ℕ) (m n : ℕ) : Type 0 where
-  pub j : ℕ
-  pub k : ℕ
-  pub v : List ℕ
-  pub w : List ℕ
-  pub written : l ≡ codes "e" ++ (gap j ++ (v ++ (gap k ++ w)))
-  pub first : Numeral v (m + 1)
-  pub second : Numeral w (n + 1)
+  pub before-first : ℕ
+  pub before-second : ℕ
+  pub first : List ℕ
+  pub second : List ℕ
+  pub written : l ≡ codes "e" ++ (gap before-first ++ (first ++ (gap before-second ++ second)))
+  pub first-is : Numeral first (m + 1)
+  pub second-is : Numeral second (n + 1)
   pub first-point : m < points
   pub second-point : n < points
 

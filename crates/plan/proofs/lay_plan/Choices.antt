@@ -1,3 +1,4 @@
+-- What the loop of `lay_plan` keeps: the tracks that are laid and what is left to read are the plan. Assumes nothing.
 use Rattle.layout.specs.Layout.{lines}
 use Rattle.layout.specs.Plans.{plan-of}
 use Rattle.layout.proofs.Walks.{Going}

@@ -1,3 +1,4 @@
+-- `read_plan` empties the table where the file is refused, and its answer obeys the law of reading. Assumes nothing.
 use mathlib.Core.Path.{_≡_}
 use borrow.Author.Needs.{needs}
 use Rattle.table.specs.Laying.{table-tracks}

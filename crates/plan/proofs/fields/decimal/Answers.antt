@@ -1,3 +1,4 @@
+-- The steps of the loop of `decimal`. Assumes nothing.
 use mathlib.Core.Path.{_≡_, sym, _∙_}
 use mathlib.Core.Bool.{true, false, not}
 use Prim.Native.Nat.{_<_, _≤_, _^_, _*_, _+_}

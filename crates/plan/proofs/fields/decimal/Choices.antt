@@ -1,3 +1,4 @@
+-- What the loop of `decimal` keeps: the value of the digits before it. Assumes nothing.
 use Prim.Native.Nat.{_<_, _^_}
 use mathlib.Core.Path.{_≡_}
 use lib.ListN.{drop}

@@ -1,3 +1,4 @@
+-- `edge` refuses an edge too many, and counts points from 0. Assumes nothing.
 use Rattle.layout.specs.Layout.{fields}
 use Rattle.layout.proofs.Letters.{edge-beyond}
 use Rattle.layout.proofs.Numbers.{numbers-within}

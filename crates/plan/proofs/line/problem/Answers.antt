@@ -1,3 +1,4 @@
+-- Each way out of `problem`: no word, another word, out of place, wrong numbers, or the line. Assumes nothing.
 use mathlib.Core.Path.{_≡_, sym, ap, _∙_}
 use Rattle.std.specs.declared.result.Result.the-variants.{Ok, Err}
 use Rattle.std.proofs.shelf.Results.{err-from-errBy}

@@ -1,3 +1,4 @@
+-- Each way out of `read_line`, by the letter. Assumes nothing.
 use mathlib.Core.Path.{_≡_, sym, _∙_}
 use Prim.Native.Nat.{_<_}
 use lib.ListN.{length}

@@ -1,3 +1,4 @@
+-- `end` refuses a text that is not empty. Assumes nothing.
 use mathlib.Core.Path.{sym}
 use native.Mathlib.Omega.{arith}
 use lib.ListN.{length}

@@ -1,3 +1,4 @@
+-- Each way out of `number`: no field, no number, a number out of its range, or the number. Assumes nothing.
 use mathlib.Core.Path.{_≡_, sym, ap, _∙_}
 use native.Mathlib.Omega.{arith}
 use Rattle.std.specs.declared.result.Result.the-variants.{Ok, Err}

@@ -1,3 +1,4 @@
+-- `next_line` gives what the next line says, keeps the place sound and moves on. Assumes nothing.
 use mathlib.Core.Path.{_≡_, refl, sym, ap, _∙_, subst}
 use mathlib.Core.List.{List}
 use Prim.Native.Nat.{ℕ}
