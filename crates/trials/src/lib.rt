@@ -1,0 +1,4 @@
+// Runs of the other crates on examples: each test is proved, and then run.
+
+#[cfg(test)]
+mod plans;
