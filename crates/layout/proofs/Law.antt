@@ -24,7 +24,7 @@ use Rattle.layout.specs.Lines.{Content, comment, problem, edge, line-of}
 use Rattle.layout.specs.Places.{next-place, complete, points-of, Sound}
 use Rattle.layout.specs.Plans.{Reading, tracks-of, onto, follow, walk, plan-of, answer-to, planned}
 use Rattle.layout.specs.Grammar.{Lines, Says}
-use Rattle.layout.specs.FileFaults.{Fault, Leads, Incomplete, Faulty, Refused, Answered}
+use Rattle.layout.specs.FileFaults.{Fault, Leads, Incomplete, Faulty, Answered}
 use Rattle.layout.specs.FileFaults as faults
 use Rattle.layout.proofs.FileLines.{lines-forth, lines-back}
 use Rattle.layout.proofs.Grammars.{says-back, says-forth}

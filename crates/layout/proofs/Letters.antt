@@ -2,23 +2,22 @@
 use mathlib.Core.Path.{_≡_, refl, sym, _∙_, ap}
 use mathlib.Core.List.{List, [], _∷_}
 use mathlib.Core.Bool.{Bool, true, false, cond}
-use Prim.Native.Nat.{ℕ, _-_, _<_, _≤_}
+use Prim.Native.Nat.{ℕ, _-_, _<_}
 use native.Mathlib.Omega.{arith}
 use lib.Chars.{codes}
-use lib.Dec.{ltb}
 use lib.ListN.{length, take, drop, getD}
 use Rattle.std.specs.declared.option.Option.the-variants.{Some, None}
 use Rattle.std.specs.declared.result.Result.{Result}
 use Rattle.std.specs.declared.result.Result.the-variants.{Ok, Err}
 use Rattle.std.specs.shelf.Text.{sameBytes}
 use Rattle.std.proofs.shelf.Lists.{take-rest}
-use Rattle.std.proofs.shelf.Tests.{cond-true, cond-false, le-ltb}
+use Rattle.std.proofs.shelf.Tests.{cond-true, cond-false}
 use Rattle.layout.specs.declared.faults.NumberFault.{NumberFault}
 use Rattle.layout.specs.declared.faults.LineFault.the-variants.{UnknownKind, OutOfPlace}
 use Rattle.layout.specs.declared.line.Place.{Place}
 use Rattle.layout.specs.declared.line.Place.the-variants.{Start, Within}
 use Rattle.layout.specs.Layout.{first-of, rest-of, numbers-of}
-use Rattle.layout.specs.Lines.{comment, line-of, by-letter, parted, problem-line, problem-at, problem-of, edge-line, edge-of}
+use Rattle.layout.specs.Lines.{line-of, by-letter, parted, problem-line, problem-at, problem-of}
 use Rattle.layout.proofs.Numbers.{first-none, first-some}
 
 -- what follows the first byte, as the code takes it
@@ -34,17 +33,14 @@ pub line-unparted : (place : Place) (l : List ℕ) → 0 < length l → false �
 line-unparted place l h e =
     sym (line-split place l h ∙ cond-false (parted (past-letter l)) (by-letter place (getD l 0 0) (past-letter l)) (Err UnknownKind) (sym e))
 
-pub line-at : (place : Place) (l : List ℕ) (k : ℕ) → 0 < length l → true ≡ parted (past-letter l) → k ≡ getD l 0 0
-    → line-of place l ≡ by-letter place k (past-letter l)
-line-at place l k h e p =
-    line-split place l h ∙ cond-true (parted (past-letter l)) (by-letter place (getD l 0 0) (past-letter l)) (Err UnknownKind) (sym e)
-    ∙ ap (λ b. by-letter place b (past-letter l)) (sym p)
+-- a line is its letter and what follows
+pub letter-first : (l : List ℕ) → 0 < length l → l ≡ getD l 0 0 ∷ past-letter l
+letter-first [] h = absurd (omega arith)
+letter-first (b ∷ bs) h = ap (λ r. b ∷ r) (sym (take-rest (b ∷ bs) 1))
 
--- a comment is the whole line
-pub line-comment : (place : Place) (l : List ℕ) → 0 < length l → true ≡ parted (past-letter l) → 99 ≡ getD l 0 0 → line-of place l ≡ Ok (comment l)
-line-comment place [] h e p = absurd (omega arith)
-line-comment place (b ∷ bs) h e p =
-    line-at place (b ∷ bs) 99 h e p ∙ ap (λ x. Ok (comment (x ∷ past-letter (b ∷ bs)))) p ∙ ap (λ r. Ok (comment (b ∷ r))) (take-rest (b ∷ bs) 1)
+pub line-parted : (place : Place) (l : List ℕ) → 0 < length l → true ≡ parted (past-letter l) → line-of place l ≡ by-letter place (getD l 0 0) (past-letter l)
+line-parted place l h e =
+    line-split place l h ∙ cond-true (parted (past-letter l)) (by-letter place (getD l 0 0) (past-letter l)) (Err UnknownKind) (sym e)
 
 pub no-word : (place : Place) (fs gs : List (List ℕ)) → gs ≡ fs → None ≡ first-of gs → Err UnknownKind ≡ problem-line place fs
 no-word place fs gs q v = sym (ap (problem-line place) (sym q ∙ first-none gs v))
@@ -64,8 +60,3 @@ module _ (place : Place) (fs gs : List (List ℕ)) (w : List ℕ) (q : gs ≡ fs
       → r ≡ numbers-of 0 512 2048 hs → problem-of r ≡ problem-line place fs
   problem-agreed hs r e p h n =
       ap problem-of (n ∙ ap (numbers-of 0 512 2048) h) ∙ sym (ap (λ x. problem-at x (rest-of gs)) p) ∙ the-word e
-
-pub edge-beyond : (place : Place) (points edges laid : ℕ) (fs : List (List ℕ)) → place ≡ Within points edges laid → edges ≤ laid
-    → Err OutOfPlace ≡ edge-line place fs
-edge-beyond place points edges laid fs p h =
-    sym (ap (λ x. edge-line x fs) p ∙ cond-false (ltb laid edges) (edge-of (numbers-of 1 points points fs)) (Err OutOfPlace) (le-ltb laid edges h))

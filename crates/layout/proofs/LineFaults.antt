@@ -6,12 +6,13 @@ use mathlib.Core.Logic.{_⊎_, inl, inr}
 use Prim.Native.Nat.{ℕ, _+_, _<_, _≤_}
 use native.Mathlib.Omega.{arith}
 use lib.Chars.{codes}
-use lib.Dec.{ltb}
+use Rattle.std.specs.declared.option.Option.{Option}
+use Rattle.std.specs.declared.option.Option.the-variants.{Some, None}
 use Rattle.std.specs.declared.result.Result.{Result}
 use Rattle.std.specs.declared.result.Result.the-variants.{Ok, Err}
 use Rattle.std.specs.shelf.Text.{sameBytes}
 use Rattle.std.proofs.shelf.Equals.{sameBytes-decides}
-use Rattle.std.proofs.shelf.Tests.{cond-true, cond-false, lt-ltb, le-ltb, cases-lt}
+use Rattle.std.proofs.shelf.Tests.{cases-lt}
 use Rattle.layout.specs.declared.faults.NumberFault.{NumberFault}
 use Rattle.layout.specs.declared.faults.LineFault.{LineFault}
 use Rattle.layout.specs.declared.faults.LineFault.the-variants.{UnknownKind, OutOfPlace, Number}
@@ -19,11 +20,11 @@ use Rattle.layout.specs.declared.line.Place.{Place}
 use Rattle.layout.specs.declared.line.Place.the-variants.{Start, Within}
 use Rattle.layout.specs.Faults.{fault-number}
 use Rattle.layout.specs.Layout.{fields, numbers-of}
-use Rattle.layout.specs.Lines.{Content, comment, problem, edge, line-of, parted, problem-line, problem-at, problem-of, edge-line, edge-of}
+use Rattle.layout.specs.Lines.{Content, comment, problem, edge, line-of, parted, problem-line, problem-at, problem-of, edge-points, edge-among, edge-line, edge-of}
 use Rattle.layout.specs.Grammar.{gap, Begins, ProblemLine, EdgeLine}
 use Rattle.layout.specs.FileFaults.{NamesEdge, Known, Misplaced, WrongNumbers, Fault}
 use Rattle.layout.specs.FileFaults as faults
-use Rattle.layout.proofs.LineKinds.{cond-split, line-kinds, kind}
+use Rattle.layout.proofs.LineKinds.{cond-split, line-kinds, kind, edge-in-place, edge-beyond}
 use Rattle.layout.proofs.Words.{field-first, field-back}
 use Rattle.layout.proofs.Written.{apart-back, apart-forth, letter-reads, comment-reads, problem-written, problem-reads, edge-written, edge-reads}
 
@@ -76,19 +77,15 @@ edge-of-number : (r : Result (ℕ × ℕ) NumberFault) → (number-in (edge-of r
 edge-of-number (Ok p) = inl refl
 edge-of-number (Err e) = inr refl
 
-edge-known : (place : Place) (fs : List (List ℕ)) → number-in (edge-line place fs) ≡ 12 → ⊥
-edge-known Start fs e = omega arith
-edge-known (Within a b c) fs e =
-    elim (cond-split (ltb c b) (edge-of (numbers-of 1 a a fs)) (Err OutOfPlace) (edge-line (Within a b c) fs) refl) [
-      | inl q ↦ omega (arith, ap number-in (q .1), edge-of-number (numbers-of 1 a a fs))
-      | inr q ↦ omega (arith, ap number-in (q .1))
-    ]
+edge-known : (points : Option ℕ) (fs : List (List ℕ)) → number-in (edge-among points fs) ≡ 12 → ⊥
+edge-known None fs e = omega arith
+edge-known (Some n) fs e = omega (arith, edge-of-number (numbers-of 1 n n fs))
 
 -- no line of a known kind is read as unknown
 unknown-only : (place : Place) (l : List ℕ) → line-of place l ≡ Err UnknownKind → Known l → ⊥
 unknown-only place l e (faults.comment s) = omega (arith, ap number-in (sym e ∙ comment-reads place l s))
 unknown-only place l e (faults.problem s) = problem-at-known place (fields (s .rest)) (ap number-in (sym (names-reads place l s) ∙ e))
-unknown-only place l e (faults.edge s) = edge-known place (fields (s .rest)) (ap number-in (sym (edge-begins place l s) ∙ e))
+unknown-only place l e (faults.edge s) = edge-known (edge-points place) (fields (s .rest)) (ap number-in (sym (edge-begins place l s) ∙ e))
 
 unknown-fault : (place : Place) (l : List ℕ) (e : LineFault) → line-of place l ≡ Err e → line-of place l ≡ Err UnknownKind → Fault place l (fault-number e)
 unknown-fault place l e p q =
@@ -124,9 +121,9 @@ edge-fault Start l s e p q =
     let same : OutOfPlace ≡ e = cc in subst (λ f. Fault Start l (fault-number f)) same (faults.misplaced (faults.early-edge l s))
 edge-fault (Within a b c) l s e p q = elim (cases-lt c b) [
   | inl h ↦ edge-numbers a b c l s e (numbers-of 1 a a (fields (s .rest))) h p
-      (q ∙ cond-true (ltb c b) (edge-of (numbers-of 1 a a (fields (s .rest)))) (Err OutOfPlace) (lt-ltb c b h))
+      (q ∙ edge-in-place a b c (fields (s .rest)) h)
   | inr h ↦
-      let r = q ∙ cond-false (ltb c b) (edge-of (numbers-of 1 a a (fields (s .rest)))) (Err OutOfPlace) (le-ltb c b h) in
+      let r = q ∙ edge-beyond a b c (fields (s .rest)) h in
       let same : OutOfPlace ≡ e = cc in
       subst (λ f. Fault (Within a b c) l (fault-number f)) same (faults.misplaced (faults.extra-edge a b c l s h))
 ]
@@ -163,10 +160,10 @@ line-fault-every place l number (faults.misplaced (faults.early-edge x s)) = rec
 line-fault-every place l number (faults.misplaced (faults.extra-edge a b c x s h)) =
     record {
       fault = OutOfPlace;
-      is = edge-begins (Within a b c) x s ∙ cond-false (ltb c b) (edge-of (numbers-of 1 a a (fields (s .rest)))) (Err OutOfPlace) (le-ltb c b h);
+      is = edge-begins (Within a b c) x s ∙ edge-beyond a b c (fields (s .rest)) h;
       by-number = refl;
     }
 line-fault-every place l number (faults.wrong-number (faults.problem x s none)) = problem-wrong x (numbers-of 0 512 2048 (fields (s .rest))) none (names-reads Start x s)
 line-fault-every place l number (faults.wrong-number (faults.edge a b c x s h none)) =
     edge-wrong a b c x (numbers-of 1 a a (fields (s .rest))) none
-    (edge-begins (Within a b c) x s ∙ cond-true (ltb c b) (edge-of (numbers-of 1 a a (fields (s .rest)))) (Err OutOfPlace) (lt-ltb c b h))
+    (edge-begins (Within a b c) x s ∙ edge-in-place a b c (fields (s .rest)) h)

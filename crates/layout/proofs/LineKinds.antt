@@ -7,11 +7,12 @@ use Prim.Native.Nat.{ℕ, _+_, _-_, _<_, _≤_}
 use native.Mathlib.Omega.{arith}
 use lib.Chars.{codes}
 use lib.Dec.{eqb, ltb}
+use Rattle.std.specs.declared.option.Option.{Option}
 use Rattle.std.specs.declared.option.Option.the-variants.{Some, None}
 use Rattle.std.specs.declared.result.Result.{Result}
 use Rattle.std.specs.declared.result.Result.the-variants.{Ok, Err}
 use Rattle.std.specs.shelf.Text.{sameBytes}
-use Rattle.std.proofs.shelf.Tests.{cases-cond, cases-lt, cond-false, le-ltb, eqb-true}
+use Rattle.std.proofs.shelf.Tests.{cases-cond, cases-lt, cond-true, cond-false, lt-ltb, le-ltb, eqb-true}
 use Rattle.layout.specs.declared.faults.NumberFault.{NumberFault}
 use Rattle.layout.specs.declared.faults.LineFault.{LineFault}
 use Rattle.layout.specs.declared.faults.LineFault.the-variants.{UnknownKind, OutOfPlace}
@@ -20,7 +21,7 @@ use Rattle.layout.specs.declared.line.Place.{Place}
 use Rattle.layout.specs.declared.line.Place.the-variants.{Start, Within}
 use Rattle.layout.specs.Faults.{fault-at, placed}
 use Rattle.layout.specs.Layout.{fields, first-of, rest-of, numbers-of}
-use Rattle.layout.specs.Lines.{Content, comment, problem, edge, line-of, by-letter, parted, problem-line, problem-at, problem-of, edge-line, edge-of}
+use Rattle.layout.specs.Lines.{Content, comment, problem, edge, line-of, by-letter, parted, problem-line, problem-at, problem-of, edge-points, edge-among, edge-line, edge-of}
 use Rattle.layout.specs.Places.{next-place, Sound, points-of, edges-of, laid-of}
 use Rattle.layout.specs.Plans.{read-next, next-of, line-at}
 use Rattle.layout.proofs.Numbers.{first-none, first-some, numbers-within}
@@ -74,11 +75,19 @@ edge-of-kind : (r : Result (ℕ × ℕ) NumberFault) → (kind (edge-of r) ≡ 2
 edge-of-kind (Ok p) = inl refl
 edge-of-kind (Err e) = inr refl
 
+edge-among-kind : (points : Option ℕ) (fs : List (List ℕ)) → (kind (edge-among points fs) ≡ 2) ⊎ (kind (edge-among points fs) ≡ 3)
+edge-among-kind None fs = inr refl
+edge-among-kind (Some n) fs = edge-of-kind (numbers-of 1 n n fs)
+
 pub edge-kind : (place : Place) (fs : List (List ℕ)) → (kind (edge-line place fs) ≡ 2) ⊎ (kind (edge-line place fs) ≡ 3)
-edge-kind Start fs = inr refl
-edge-kind (Within a b c) fs =
-    elim (ltb c b) as (λ t. (kind (cond t (edge-of (numbers-of 1 a a fs)) (Err OutOfPlace)) ≡ 2) ⊎ (kind (cond t (edge-of (numbers-of 1 a a fs)) (Err OutOfPlace)) ≡ 3))
-    [ true ↦ edge-of-kind (numbers-of 1 a a fs) | false ↦ inr refl ]
+edge-kind place fs = edge-among-kind (edge-points place) fs
+
+-- an edge is in place while edges are missing
+pub edge-in-place : (points edges laid : ℕ) (fs : List (List ℕ)) → laid < edges → edge-line (Within points edges laid) fs ≡ edge-of (numbers-of 1 points points fs)
+edge-in-place points edges laid fs h = ap (λ o. edge-among o fs) (cond-true (ltb laid edges) (Some points) None (lt-ltb laid edges h))
+
+pub edge-beyond : (points edges laid : ℕ) (fs : List (List ℕ)) → edges ≤ laid → edge-line (Within points edges laid) fs ≡ Err OutOfPlace
+edge-beyond points edges laid fs h = ap (λ o. edge-among o fs) (cond-false (ltb laid edges) (Some points) None (le-ltb laid edges h))
 
 pub problem-of-is : (points edges : ℕ) (r : Result (ℕ × ℕ) NumberFault) → Ok (problem points edges) ≡ problem-of r → Ok (points, edges) ≡ r
 problem-of-is points edges (Ok x) e =
@@ -122,19 +131,13 @@ Fits-in place first second = (first < points-of place) × (second < points-of pl
 
 edge-line-is : (place : Place) (first second : ℕ) (fs : List (List ℕ)) → Ok (edge first second) ≡ edge-line place fs → Fits-in place first second
 edge-line-is Start first second fs e = let z : _≡_ {A = ℕ} 0 1 = cc in absurd (omega arith)
-edge-line-is (Within a b c) first second fs e =
-    elim (cases-lt c b) [
-      | inl h ↦ elim (cases-cond (ltb c b) (edge-of (numbers-of 1 a a fs)) (Err OutOfPlace) (Ok (edge first second)) e) [
-        | inl q ↦
-            let r = edge-of-is first second (numbers-of 1 a a fs) q in
-            let w = numbers-within 1 a a (r .0) (r .1) fs (r .2) in
-            (omega (arith, r .3, w .0 .0, w .0 .1), omega (arith, r .4, w .1 .0, w .1 .1), h)
-        | inr q ↦ let z : _≡_ {A = ℕ} 0 1 = cc in absurd (omega arith)
-      ]
-      | inr h ↦
-          let q = e ∙ cond-false (ltb c b) (edge-of (numbers-of 1 a a fs)) (Err OutOfPlace) (le-ltb c b h) in
-          let z : _≡_ {A = ℕ} 0 1 = cc in absurd (omega arith)
-    ]
+edge-line-is (Within a b c) first second fs e = elim (cases-lt c b) [
+  | inl h ↦
+      let r = edge-of-is first second (numbers-of 1 a a fs) (e ∙ edge-in-place a b c fs h) in
+      let w = numbers-within 1 a a (r .0) (r .1) fs (r .2) in
+      (omega (arith, r .3, w .0 .0, w .0 .1), omega (arith, r .4, w .1 .0, w .1 .1), h)
+  | inr h ↦ absurd (omega (arith, ap kind (e ∙ edge-beyond a b c fs h)))
+]
 
 -- an edge joins points that there are, and is one of those that there may be
 pub edge-is : (place : Place) (b : List ℕ) (first second : ℕ) → Ok (edge first second) ≡ line-of place b → Fits-in place first second

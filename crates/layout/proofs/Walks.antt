@@ -5,14 +5,13 @@ use mathlib.Core.Bool.{Bool, true, false, cond, _&&_}
 use mathlib.Core.Logic.{_⊎_, inl, inr}
 use Prim.Native.Nat.{ℕ, suc, _+_, _<_, _≤_}
 use native.Mathlib.Omega.{arith}
-use lib.Dec.{ltb}
 use lib.ListN.{length}
 use Rattle.std.specs.declared.option.Option.{Option}
 use Rattle.std.specs.declared.option.Option.the-variants.{Some, None}
 use Rattle.std.specs.declared.result.Result.{Result}
 use Rattle.std.specs.declared.result.Result.the-variants.{Ok, Err}
 use Rattle.std.proofs.shelf.Lists.{append-nil, append-assoc, length-append, length-push}
-use Rattle.std.proofs.shelf.Tests.{cases-cond, cond-true, and-from, lt-ltb}
+use Rattle.std.proofs.shelf.Tests.{cases-cond}
 use Rattle.network.specs.Tracks.{open-track}
 use Rattle.network.specs.declared.track.Track.{Track}
 use Rattle.layout.specs.declared.faults.LineFault.{LineFault}

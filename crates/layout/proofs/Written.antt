@@ -6,14 +6,14 @@ use mathlib.Core.Logic.{_⊎_, inl, inr}
 use Prim.Native.Nat.{ℕ, _+_, _-_, _<_, _≤_}
 use native.Mathlib.Omega.{arith}
 use lib.Chars.{codes}
-use lib.Dec.{leb, ltb}
+use lib.Dec.{leb}
 use lib.ListN.{length}
 use Rattle.std.specs.declared.result.Result.{Result}
 use Rattle.std.specs.declared.result.Result.the-variants.{Ok, Err}
 use Rattle.std.specs.shelf.Text.{sameBytes}
 use Rattle.std.proofs.shelf.Equals.{sameBytes-decides}
 use Rattle.std.proofs.shelf.Lists.{append-nil}
-use Rattle.std.proofs.shelf.Tests.{eqb-true, cond-true, lt-ltb}
+use Rattle.std.proofs.shelf.Tests.{eqb-true, cond-true, cases-lt}
 use Rattle.std.proofs.shelf.Ways.{tells}
 use Rattle.layout.specs.declared.faults.NumberFault.{NumberFault}
 use Rattle.layout.specs.declared.faults.NumberFault.the-variants.{Wrong}
@@ -27,7 +27,7 @@ use Rattle.layout.specs.Grammar.{gap, Apart, Begins, CommentLine, ProblemLine,
 use Rattle.layout.proofs.Numbers.{numbers-within}
 use Rattle.layout.proofs.Numerals.{numeral-back, numeral-forth}
 use Rattle.layout.proofs.Words.{field-first, field-last, field-back, fields-none, decimal-word}
-use Rattle.layout.proofs.LineKinds.{cond-split, line-kinds, kind, problem-kind, edge-kind, problem-of-is, edge-of-is}
+use Rattle.layout.proofs.LineKinds.{cond-split, line-kinds, kind, problem-kind, edge-kind, edge-in-place, edge-beyond, problem-of-is, edge-of-is}
 
 -- letters
 
@@ -175,17 +175,19 @@ problem-reads l m n s =
 
 -- edges
 
+same-pair : (a b c d : ℕ) (r : Result (ℕ × ℕ) NumberFault) → a ≡ c → b ≡ d → Ok (c, d) ≡ r → Ok (a, b) ≡ r
+same-pair a b c d r p q e = ap (λ x. Ok (x, b)) p ∙ ap (λ x. Ok (c, x)) q ∙ e
+
 edge-back : (points edges laid m n : ℕ) (fs : List (List ℕ)) → Ok (edge m n) ≡ edge-line (Within points edges laid) fs → Ok (m + 1, n + 1) ≡ numbers-of 1 points points fs
-edge-back points edges laid m n fs e =
-    elim (cond-split (ltb laid edges) (edge-of (numbers-of 1 points points fs)) (Err OutOfPlace) (Ok (edge m n)) e) [
-      | inl q ↦
-          let r = edge-of-is m n (numbers-of 1 points points fs) (q .1) in
-          let w = numbers-within 1 points points (r .0) (r .1) fs (r .2) in
-          let x : m + 1 ≡ r .0 = omega (arith, r .3, w .0 .0) in
-          let y : n + 1 ≡ r .1 = omega (arith, r .4, w .1 .0) in
-          ap (λ a. Ok (a, n + 1)) x ∙ ap (λ a. Ok (r .0, a)) y ∙ r .2
-      | inr q ↦ let y = q .1 in let z : _≡_ {A = ℕ} 0 1 = cc in absurd (omega arith)
-    ]
+edge-back points edges laid m n fs e = elim (cases-lt laid edges) [
+  | inl h ↦
+      let r = edge-of-is m n (numbers-of 1 points points fs) (e ∙ edge-in-place points edges laid fs h) in
+      let w = numbers-within 1 points points (r .0) (r .1) fs (r .2) in
+      let x : m + 1 ≡ r .0 = omega (arith, r .3, w .0 .0) in
+      let y : n + 1 ≡ r .1 = omega (arith, r .4, w .1 .0) in
+      same-pair (m + 1) (n + 1) (r .0) (r .1) (numbers-of 1 points points fs) x y (r .2)
+  | inr h ↦ absurd (omega (arith, ap kind (e ∙ edge-beyond points edges laid fs h)))
+]
 
 edge-rest : (points edges laid m n : ℕ) (l rest : List ℕ) → l ≡ 101 ∷ rest → parted rest ≡ true → Ok (edge m n) ≡ edge-line (Within points edges laid) (fields rest) → EdgeLine points l m n
 edge-rest points edges laid m n l rest e p q =
@@ -225,6 +227,6 @@ edge-reads points edges laid m n l h s =
     let x : m + 1 - 1 ≡ m = omega arith in
     let y : n + 1 - 1 ≡ n = omega arith in
     ap (line-of (Within points edges laid)) (s .written) ∙ ap (edge-line (Within points edges laid)) words
-    ∙ cond-true (ltb laid edges) (edge-of (numbers-of 1 points points (s .first ∷ s .second ∷ []))) (Err OutOfPlace) (lt-ltb laid edges h)
+    ∙ edge-in-place points edges laid (s .first ∷ s .second ∷ []) h
     ∙ sym (ap edge-of (numbers-forth 1 points points (m + 1) (n + 1) (s .first) (s .second) (f, g) (f′, g′) first second))
     ∙ ap (λ a. Ok (edge a (n + 1 - 1))) x ∙ ap (λ a. Ok (edge m a)) y

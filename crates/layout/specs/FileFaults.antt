@@ -64,7 +64,7 @@ pub data Faulty (bytes : List ℕ) : ℕ → ℕ → Type 0 where
   at-end : (ls : List (List ℕ)) (place : Place) → Lines bytes ls → Leads ls Start place → Incomplete place → Faulty bytes 13 (length ls + 1)
 
 -- an answer that refuses a file by this number at this line
-pub record Refused (answer : Result ℕ FileFault) (number line : ℕ) : Type 0 where
+pub record RefusedAt (answer : Result ℕ FileFault) (number line : ℕ) : Type 0 where
   pub fault : FileFault
   pub is : answer ≡ Err fault
   pub by-number : refusal-number (fault .refusal) ≡ number
@@ -75,4 +75,4 @@ pub record Answered (bytes : List ℕ) (answer : Result ℕ FileFault) (tracks :
   pub accepted-only : (points : ℕ) → answer ≡ Ok points → Says bytes points tracks
   pub accepted-every : (points : ℕ) (ts : List Track) → Says bytes points ts → (answer ≡ Ok points) × (tracks ≡ ts)
   pub refused-only : (fault : FileFault) → answer ≡ Err fault → Faulty bytes (refusal-number (fault .refusal)) (fault .line) × (tracks ≡ [])
-  pub refused-every : (number line : ℕ) → Faulty bytes number line → Refused answer number line
+  pub refused-every : (number line : ℕ) → Faulty bytes number line → RefusedAt answer number line

@@ -110,7 +110,7 @@ both (Err e) r = Err e
 
 -- two fields that write numbers from low, and no other field
 abbrev pub numbers-of : ℕ → ℕ → ℕ → List (List ℕ) → Result (ℕ × ℕ) NumberFault
-numbers-of low most-a most-b [] = Err Wrong
-numbers-of low most-a most-b (a ∷ []) = Err Wrong
-numbers-of low most-a most-b (a ∷ b ∷ []) = both (number-of low most-a a) (number-of low most-b b)
-numbers-of low most-a most-b (a ∷ b ∷ w ∷ ws) = Err Wrong
+numbers-of low most-first most-second [] = Err Wrong
+numbers-of low most-first most-second (a ∷ []) = Err Wrong
+numbers-of low most-first most-second (a ∷ b ∷ []) = both (number-of low most-first a) (number-of low most-second b)
+numbers-of low most-first most-second (a ∷ b ∷ w ∷ ws) = Err Wrong

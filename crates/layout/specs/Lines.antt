@@ -5,6 +5,8 @@ use Prim.Native.Nat.{ℕ, _-_}
 use lib.Chars.{codes}
 use lib.Dec.{eqb, ltb}
 use Rattle.std.specs.shelf.Text.{sameBytes}
+use Rattle.std.specs.declared.option.Option.{Option}
+use Rattle.std.specs.declared.option.Option.the-variants.{Some, None}
 use Rattle.std.specs.declared.result.Result.{Result}
 use Rattle.std.specs.declared.result.Result.the-variants.{Ok, Err}
 use Rattle.layout.specs.declared.faults.NumberFault.{NumberFault}
@@ -40,10 +42,19 @@ abbrev pub problem-line : Place → List (List ℕ) → Result Content LineFault
 problem-line place [] = Err UnknownKind
 problem-line place (w ∷ numbers) = cond (sameBytes w (codes "edge")) (problem-at place numbers) (Err UnknownKind)
 
--- e U V: in place after the problem line, while edges are missing
+-- how many points there are for an edge to join: none where an edge is out of place, before the problem line or after the last edge that it said
+abbrev pub edge-points : Place → Option ℕ
+edge-points Start = None
+edge-points (Within points edges laid) = cond (ltb laid edges) (Some points) None
+
+-- an edge that joins two of so many points
+abbrev pub edge-among : Option ℕ → List (List ℕ) → Result Content LineFault
+edge-among None numbers = Err OutOfPlace
+edge-among (Some points) numbers = edge-of (numbers-of 1 points points numbers)
+
+-- e U V
 abbrev pub edge-line : Place → List (List ℕ) → Result Content LineFault
-edge-line Start numbers = Err OutOfPlace
-edge-line (Within points edges laid) numbers = cond (ltb laid edges) (edge-of (numbers-of 1 points points numbers)) (Err OutOfPlace)
+edge-line place numbers = edge-among (edge-points place) numbers
 
 -- what a line says by its letter, c, p or e, and what follows that
 abbrev pub by-letter : Place → ℕ → List ℕ → Result Content LineFault

@@ -1,10 +1,11 @@
 // Reads one line of a plan.
 ghost use mathlib.Core.Path.{_≡_};
+ghost use mathlib.Core.List.{_∷_};
 ghost use lib.Chars.{codes};
 ghost use Rattle.std.specs.shelf.Text.{sameBytes};
 ghost use Rattle.layout.specs.Contents.{content-of};
 ghost use Rattle.layout.specs.Layout.{fields};
-ghost use Rattle.layout.specs.Lines.{line-of, problem-line, edge-line, parted};
+ghost use Rattle.layout.specs.Lines.{line-of, edge-points, by-letter, problem-line, edge-line, parted};
 use crate::fields::Fields;
 use layout::faults::LineFault;
 use layout::faults::LineFromNumber;
@@ -45,27 +46,51 @@ fn problem<'a>(rest: &'a [u8], place: Place) -> Result<Line<'a>, LineFault>
     Ok(Line::Problem { points, edges })
 }
 
+// How many points there are for an edge to join: None where an edge is out of place.
+fn edge_points(place: Place) -> Option<u16>
+    ensures { λ r. ⌜ r ≡ edge-points place ⌝ }
+{
+    match place {
+        Place::Within {
+            points,
+            edges,
+            laid,
+        } if laid < edges => Some(points),
+        _ => None,
+    }
+}
+
 // What follows the letter e.
 fn edge<'a>(rest: &'a [u8], place: Place) -> Result<Line<'a>, LineFault>
     ensures { λ r. ⌜ content-of r ≡ edge-line place (fields (now (rest .entry))) ⌝ }
 {
-    let Place::Within {
-        points,
-        edges,
-        laid,
-    } = place
-    else {
+    let Some(points) = edge_points(place) else {
         return Err(LineFault::OutOfPlace);
     };
-    if laid >= edges {
-        return Err(LineFault::OutOfPlace);
-    }
     let mut fields = Fields::of(rest);
     let (first, second) = fields.numbers(1, (points, points))?;
     Ok(Line::Edge {
         first: first - 1,
         second: second - 1,
     })
+}
+
+// What a line says by its letter.
+fn by_letter<'a>(
+    line: &'a [u8],
+    letter: u8,
+    rest: &'a [u8],
+    place: Place,
+) -> Result<Line<'a>, LineFault>
+    requires { ⌜ now line ≡ letter ∷ now rest ⌝ }
+    ensures { λ r. ⌜ content-of r ≡ by-letter place letter (now (rest .entry)) ⌝ }
+{
+    match char::from(letter) {
+        'c' => Ok(Line::Comment(line)),
+        'p' => problem(rest, place),
+        'e' => edge(rest, place),
+        _ => Err(LineFault::UnknownKind),
+    }
 }
 
 // What a line says that stands at this place.
@@ -78,10 +103,5 @@ pub(crate) fn read_line<'a>(line: &'a [u8], place: Place) -> Result<Line<'a>, Li
     if !is_parted(rest) {
         return Err(LineFault::UnknownKind);
     }
-    match char::from(*letter) {
-        'c' => Ok(Line::Comment(line)),
-        'p' => problem(rest, place),
-        'e' => edge(rest, place),
-        _ => Err(LineFault::UnknownKind),
-    }
+    by_letter(line, *letter, rest, place)
 }
