@@ -1,11 +1,10 @@
 -- The law of reading: the answer that the reading of a file gives is right. Assumes nothing.
 use mathlib.Core.Path.{_≡_, refl, sym, _∙_, ap, subst}
 use mathlib.Core.List.{List, [], _∷_, _++_}
-use mathlib.Core.Bool.{true, false, cond}
-use mathlib.Core.Logic.{_⊎_, inl, inr}
-use Prim.Native.Nat.{ℕ, _+_, _<_, _≤_}
+use mathlib.Core.Bool.{false}
+use mathlib.Core.Logic.{inl, inr}
+use Prim.Native.Nat.{ℕ, _+_}
 use native.Mathlib.Omega.{arith}
-use lib.Dec.{eqb}
 use lib.ListN.{length}
 use Rattle.std.specs.declared.result.Result.{Result}
 use Rattle.std.specs.declared.result.Result.the-variants.{Ok, Err}
@@ -18,7 +17,7 @@ use Rattle.layout.specs.declared.faults.LineFault.the-variants.{OutOfPlace}
 use Rattle.layout.specs.declared.faults.FileFault.{FileFault}
 use Rattle.layout.specs.declared.line.Place.{Place}
 use Rattle.layout.specs.declared.line.Place.the-variants.{Start, Within}
-use Rattle.layout.specs.Faults.{fault-number, placed}
+use Rattle.layout.specs.Faults.{placed}
 use Rattle.layout.specs.Layout.{lines}
 use Rattle.layout.specs.Lines.{Content, comment, problem, edge, line-of}
 use Rattle.layout.specs.Places.{next-place, complete, points-of, Sound}

@@ -1,21 +1,21 @@
 -- The ways through a line. Assumes nothing.
-use mathlib.Core.Path.{_≡_, refl, sym, _∙_, ap}
+use mathlib.Core.Path.{_≡_, sym, _∙_, ap}
 use mathlib.Core.List.{List, [], _∷_}
-use mathlib.Core.Bool.{Bool, true, false, cond}
+use mathlib.Core.Bool.{true, false, cond}
 use Prim.Native.Nat.{ℕ, _-_, _<_}
 use native.Mathlib.Omega.{arith}
 use lib.Chars.{codes}
 use lib.ListN.{length, take, drop, getD}
 use Rattle.std.specs.declared.option.Option.the-variants.{Some, None}
 use Rattle.std.specs.declared.result.Result.{Result}
-use Rattle.std.specs.declared.result.Result.the-variants.{Ok, Err}
+use Rattle.std.specs.declared.result.Result.the-variants.{Err}
 use Rattle.std.specs.shelf.Text.{sameBytes}
 use Rattle.std.proofs.shelf.Lists.{take-rest}
 use Rattle.std.proofs.shelf.Tests.{cond-true, cond-false}
 use Rattle.layout.specs.declared.faults.NumberFault.{NumberFault}
-use Rattle.layout.specs.declared.faults.LineFault.the-variants.{UnknownKind, OutOfPlace}
+use Rattle.layout.specs.declared.faults.LineFault.the-variants.{UnknownKind}
 use Rattle.layout.specs.declared.line.Place.{Place}
-use Rattle.layout.specs.declared.line.Place.the-variants.{Start, Within}
+use Rattle.layout.specs.declared.line.Place.the-variants.{Start}
 use Rattle.layout.specs.Layout.{first-of, rest-of, numbers-of}
 use Rattle.layout.specs.Lines.{line-of, by-letter, parted, problem-line, problem-at, problem-of}
 use Rattle.layout.proofs.Numbers.{first-none, first-some}

@@ -1,9 +1,9 @@
 -- A line is read as a fault if and only if it has that fault. Assumes nothing.
 use mathlib.Core.Path.{_≡_, refl, sym, _∙_, ap, subst}
 use mathlib.Core.List.{List, [], _∷_, _++_}
-use mathlib.Core.Bool.{true, false, cond}
+use mathlib.Core.Bool.{true}
 use mathlib.Core.Logic.{_⊎_, inl, inr}
-use Prim.Native.Nat.{ℕ, _+_, _<_, _≤_}
+use Prim.Native.Nat.{ℕ, _+_, _<_}
 use native.Mathlib.Omega.{arith}
 use lib.Chars.{codes}
 use Rattle.std.specs.declared.option.Option.{Option}
@@ -22,7 +22,7 @@ use Rattle.layout.specs.Faults.{fault-number}
 use Rattle.layout.specs.Layout.{fields, numbers-of}
 use Rattle.layout.specs.Lines.{Content, comment, problem, edge, line-of, parted, problem-line, problem-at, problem-of, edge-points, edge-among, edge-line, edge-of}
 use Rattle.layout.specs.Grammar.{gap, Begins, ProblemLine, EdgeLine}
-use Rattle.layout.specs.FileFaults.{NamesEdge, Known, Misplaced, WrongNumbers, Fault}
+use Rattle.layout.specs.FileFaults.{NamesEdge, Known, Fault}
 use Rattle.layout.specs.FileFaults as faults
 use Rattle.layout.proofs.LineKinds.{cond-split, line-kinds, kind, edge-in-place, edge-beyond}
 use Rattle.layout.proofs.Words.{field-first, field-back}

@@ -1,9 +1,9 @@
 -- What a line that was read tells of the place, and of the next line. Assumes nothing.
-use mathlib.Core.Path.{_≡_, refl, sym, _∙_, ap, subst}
+use mathlib.Core.Path.{_≡_, refl, _∙_, ap}
 use mathlib.Core.List.{List, [], _∷_}
 use mathlib.Core.Bool.{Bool, true, false, cond}
 use mathlib.Core.Logic.{_⊎_, inl, inr}
-use Prim.Native.Nat.{ℕ, _+_, _-_, _<_, _≤_}
+use Prim.Native.Nat.{ℕ, _-_, _<_, _≤_}
 use native.Mathlib.Omega.{arith}
 use lib.Chars.{codes}
 use lib.Dec.{eqb, ltb}
@@ -20,11 +20,11 @@ use Rattle.layout.specs.declared.faults.FaultAt.{FaultAt}
 use Rattle.layout.specs.declared.line.Place.{Place}
 use Rattle.layout.specs.declared.line.Place.the-variants.{Start, Within}
 use Rattle.layout.specs.Faults.{fault-at, placed}
-use Rattle.layout.specs.Layout.{fields, first-of, rest-of, numbers-of}
+use Rattle.layout.specs.Layout.{fields, first-of, numbers-of}
 use Rattle.layout.specs.Lines.{Content, comment, problem, edge, line-of, by-letter, parted, problem-line, problem-at, problem-of, edge-points, edge-among, edge-line, edge-of}
 use Rattle.layout.specs.Places.{next-place, Sound, points-of, edges-of, laid-of}
 use Rattle.layout.specs.Plans.{read-next, next-of, line-at}
-use Rattle.layout.proofs.Numbers.{first-none, first-some, numbers-within}
+use Rattle.layout.proofs.Numbers.{first-some, numbers-within}
 
 pub cond-split : {X : Type 0} (b : Bool) (x y z : X) → z ≡ cond b x y → ((b ≡ true) × (z ≡ x)) ⊎ ((b ≡ false) × (z ≡ y))
 cond-split true x y z e = inl (refl, e)

@@ -4,7 +4,7 @@ use mathlib.Core.List.{List, [], _∷_}
 use mathlib.Core.Bool.{Bool, true, false, cond, not}
 use mathlib.Core.Logic.{_⊎_, inl, inr}
 use Prim.Native.Nat.{ℕ, suc, _+_, _-_, _<_, _≤_}
-use native.Mathlib.Numerals.{add-one, one-add}
+use native.Mathlib.Numerals.{one-add}
 use native.Mathlib.Omega.{arith}
 use lib.ListN.{length, take, drop}
 use lib.Dec.{eqb}
@@ -12,7 +12,7 @@ use Rattle.std.specs.declared.option.Option.the-variants.{Some}
 use Rattle.std.specs.shelf.Lists.{leading}
 use Rattle.std.proofs.shelf.Lists.{take-all, drop-all, drop-drop, length-drop}
 use Rattle.std.proofs.shelf.Tests.{cases-lt, cases-bool, eqb-true, cond-false}
-use Rattle.layout.specs.Layout.{split, onto-first, unless-empty, if-any, lines, kept, fields, first-of, rest-of, past-line}
+use Rattle.layout.specs.Layout.{split, onto-first, unless-empty, lines, kept, fields, first-of, rest-of, past-line}
 
 -- how many bytes stand before the first s
 abbrev pub to : ℕ → List ℕ → ℕ

@@ -1,16 +1,16 @@
 -- One turn of the loop over the lines of a plan. Assumes nothing.
-use mathlib.Core.Path.{_≡_, refl, sym, _∙_, ap, subst}
+use mathlib.Core.Path.{_≡_, refl, sym, _∙_, ap}
 use mathlib.Core.List.{List, [], _∷_, _++_}
-use mathlib.Core.Bool.{Bool, true, false, cond, _&&_}
-use mathlib.Core.Logic.{_⊎_, inl, inr}
-use Prim.Native.Nat.{ℕ, suc, _+_, _<_, _≤_}
+use mathlib.Core.Bool.{Bool, true, false, cond}
+use mathlib.Core.Logic.{inl, inr}
+use Prim.Native.Nat.{ℕ, _+_, _<_}
 use native.Mathlib.Omega.{arith}
 use lib.ListN.{length}
 use Rattle.std.specs.declared.option.Option.{Option}
 use Rattle.std.specs.declared.option.Option.the-variants.{Some, None}
 use Rattle.std.specs.declared.result.Result.{Result}
 use Rattle.std.specs.declared.result.Result.the-variants.{Ok, Err}
-use Rattle.std.proofs.shelf.Lists.{append-nil, append-assoc, length-append, length-push}
+use Rattle.std.proofs.shelf.Lists.{append-nil, append-assoc, length-push}
 use Rattle.std.proofs.shelf.Tests.{cases-cond}
 use Rattle.network.specs.Tracks.{open-track}
 use Rattle.network.specs.declared.track.Track.{Track}
@@ -22,7 +22,7 @@ use Rattle.layout.specs.declared.line.Place.the-variants.{Start, Within}
 use Rattle.layout.specs.Faults.{placed}
 use Rattle.layout.specs.Layout.{rest-of}
 use Rattle.layout.specs.Lines.{Content, comment, problem, edge, line-of}
-use Rattle.layout.specs.Places.{next-place, complete, Sound, points-of, edges-of, laid-of}
+use Rattle.layout.specs.Places.{next-place, complete, points-of, edges-of, laid-of}
 use Rattle.layout.specs.Plans.{Reading, tracks-of, onto, follow, walk, read-next, next-of, number-after}
 use Rattle.layout.proofs.LineKinds.{problem-is, edge-is}
 

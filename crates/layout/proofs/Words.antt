@@ -1,9 +1,9 @@
 -- The fields of a text that is written as gaps and words, and back. Assumes nothing.
-use mathlib.Core.Path.{_≡_, refl, sym, _∙_, ap, subst}
+use mathlib.Core.Path.{_≡_, refl, sym, _∙_, ap}
 use mathlib.Core.List.{List, [], _∷_, _++_}
-use mathlib.Core.Bool.{Bool, true, false, cond, not, _&&_}
-use mathlib.Core.Logic.{_⊎_, inl, inr}
-use Prim.Native.Nat.{ℕ, zero, suc, _+_, _*_, _<_, _≤_}
+use mathlib.Core.Bool.{true, false, _&&_}
+use mathlib.Core.Logic.{inl, inr}
+use Prim.Native.Nat.{ℕ, zero, suc, _+_, _*_, _<_}
 use native.Mathlib.Numerals.{one-add}
 use native.Mathlib.Omega.{arith}
 use lib.Dec.{eqb, leb}
@@ -15,7 +15,7 @@ use Rattle.std.proofs.shelf.Tests.{cases-lt, cases-bool, eqb-true, cond-true, c
 use Rattle.std.proofs.shelf.Ways.{tells}
 use Rattle.layout.specs.declared.faults.NumberFault.{NumberFault}
 use Rattle.layout.specs.declared.faults.NumberFault.the-variants.{Wrong}
-use Rattle.layout.specs.Layout.{split, kept, fields, decimal, digits-after, digit-of, with-digit}
+use Rattle.layout.specs.Layout.{split, fields, decimal, digits-after, digit-of, with-digit}
 use Rattle.layout.specs.Lines.{parted}
 use Rattle.layout.specs.Grammar.{gap}
 use Rattle.layout.proofs.Splits.{to, blanks, fields-step, fields-space, word-step, drop-to}

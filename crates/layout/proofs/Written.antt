@@ -1,13 +1,12 @@
 -- How each kind of line is written, from what it says, and back. Assumes nothing.
 use mathlib.Core.Path.{_≡_, refl, sym, _∙_, ap}
 use mathlib.Core.List.{List, [], _∷_, _++_}
-use mathlib.Core.Bool.{Bool, true, false, cond, _&&_}
-use mathlib.Core.Logic.{_⊎_, inl, inr}
+use mathlib.Core.Bool.{true, _&&_}
+use mathlib.Core.Logic.{inl, inr}
 use Prim.Native.Nat.{ℕ, _+_, _-_, _<_, _≤_}
 use native.Mathlib.Omega.{arith}
 use lib.Chars.{codes}
 use lib.Dec.{leb}
-use lib.ListN.{length}
 use Rattle.std.specs.declared.result.Result.{Result}
 use Rattle.std.specs.declared.result.Result.the-variants.{Ok, Err}
 use Rattle.std.specs.shelf.Text.{sameBytes}
@@ -17,13 +16,12 @@ use Rattle.std.proofs.shelf.Tests.{eqb-true, cond-true, cases-lt}
 use Rattle.std.proofs.shelf.Ways.{tells}
 use Rattle.layout.specs.declared.faults.NumberFault.{NumberFault}
 use Rattle.layout.specs.declared.faults.NumberFault.the-variants.{Wrong}
-use Rattle.layout.specs.declared.faults.LineFault.{LineFault}
-use Rattle.layout.specs.declared.faults.LineFault.the-variants.{UnknownKind, OutOfPlace}
+use Rattle.layout.specs.declared.faults.LineFault.the-variants.{UnknownKind}
 use Rattle.layout.specs.declared.line.Place.{Place}
 use Rattle.layout.specs.declared.line.Place.the-variants.{Start, Within}
 use Rattle.layout.specs.Layout.{fields, decimal, between, number-of, numbers-of, both}
-use Rattle.layout.specs.Lines.{Content, comment, problem, edge, line-of, by-letter, parted, problem-line, problem-at, problem-of, edge-line, edge-of}
-use Rattle.layout.specs.Grammar.{gap, Apart, Begins, CommentLine, ProblemLine, EdgeLine}
+use Rattle.layout.specs.Lines.{comment, problem, edge, line-of, by-letter, parted, problem-line, problem-at, problem-of, edge-line, edge-of}
+use Rattle.layout.specs.Grammar.{gap, Apart, CommentLine, ProblemLine, EdgeLine}
 use Rattle.layout.proofs.Numbers.{numbers-within}
 use Rattle.layout.proofs.Numerals.{numeral-back, numeral-forth}
 use Rattle.layout.proofs.Words.{field-first, field-last, field-back, fields-none, decimal-word}

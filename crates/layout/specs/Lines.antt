@@ -1,6 +1,6 @@
 -- What a line says. Assumes nothing.
 use mathlib.Core.List.{List, [], _∷_}
-use mathlib.Core.Bool.{Bool, true, false, cond}
+use mathlib.Core.Bool.{Bool, true, cond}
 use Prim.Native.Nat.{ℕ, _-_}
 use lib.Chars.{codes}
 use lib.Dec.{eqb, ltb}

@@ -1,5 +1,5 @@
 -- Where in a plan a line stands. Assumes nothing.
-use mathlib.Core.Bool.{Bool, true, false}
+use mathlib.Core.Bool.{Bool, false}
 use Prim.Native.Nat.{ℕ, _+_, _≤_}
 use lib.Dec.{eqb}
 use Rattle.layout.specs.declared.line.Place.{Place}

@@ -1,6 +1,5 @@
 -- The turns of the loop of `lay_plan`, and its ways out. Assumes nothing.
 use mathlib.Core.Path.{sym, ap, _∙_}
-use Rattle.std.specs.declared.option.Option.the-variants.{Some}
 use Rattle.std.specs.Results.{isOk}
 use Rattle.std.specs.declared.result.Result.the-variants.{Ok, Err}
 use Rattle.std.proofs.shelf.Lists.{append-nil}

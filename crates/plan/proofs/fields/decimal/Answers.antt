@@ -1,10 +1,7 @@
 -- The steps of the loop of `decimal`. Assumes nothing.
-use mathlib.Core.Path.{_≡_, sym, _∙_}
-use mathlib.Core.Bool.{true, false, not}
-use Prim.Native.Nat.{_<_, _≤_, _^_, _*_, _+_}
+use mathlib.Core.Path.{sym, _∙_}
+use Prim.Native.Nat.{_≤_}
 use native.Mathlib.Omega.{arith}
-use native.Mathlib.Numerals.{add-one}
-use borrow.Author.Needs.{needs}
 use lib.ListN.{length, getD}
 use Rattle.std.proofs.shelf.Results.{err-from-errBy}
 use Rattle.std.proofs.shelf.Lists.{at-drop-all}

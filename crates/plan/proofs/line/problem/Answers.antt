@@ -1,9 +1,9 @@
 -- Each way out of `problem`: no word, another word, out of place, wrong numbers, or the line. Assumes nothing.
-use mathlib.Core.Path.{_≡_, sym, ap, _∙_}
+use mathlib.Core.Path.{sym, ap, _∙_}
 use Rattle.std.specs.declared.result.Result.the-variants.{Ok, Err}
 use Rattle.std.proofs.shelf.Results.{err-from-errBy}
-use Rattle.layout.specs.Layout.{fields, rest-of, numbers-of}
-use Rattle.layout.specs.Lines.{problem-at, problem-of, problem-line}
+use Rattle.layout.specs.Layout.{fields, rest-of}
+use Rattle.layout.specs.Lines.{problem-at}
 use Rattle.layout.specs.Contents.{content-of}
 use Rattle.layout.proofs.Letters.{no-word, other-word, the-word, problem-agreed}
 use Rattle.plan.proofs.line.problem.Needs as need

@@ -1,5 +1,5 @@
 -- `read_line` takes the letter off, and then what the letter says. Assumes nothing.
-use mathlib.Core.Path.{_≡_, sym, _∙_}
+use mathlib.Core.Path.{sym, _∙_}
 use borrow.Author.Needs.{needs}
 use Rattle.layout.proofs.Letters.{letter-first, line-unparted, line-parted}
 use Rattle.plan.proofs.line.read_line.Needs as need

@@ -4,7 +4,7 @@ use native.Mathlib.Omega.{arith}
 use Rattle.std.specs.declared.result.Result.the-variants.{Ok, Err}
 use Rattle.std.proofs.shelf.Results.{err-from-errBy}
 use Rattle.std.proofs.shelf.Ways.{tells}
-use Rattle.layout.specs.Layout.{fields, between, first-number, decimal}
+use Rattle.layout.specs.Layout.{fields, between}
 use Rattle.layout.specs.declared.faults.NumberFault.the-variants.{Wrong}
 use Rattle.layout.proofs.Numbers.{number-missing, number-there}
 use Rattle.plan.proofs.fields.Fields.number.Needs as need

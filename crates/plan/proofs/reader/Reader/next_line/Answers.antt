@@ -1,15 +1,12 @@
 -- `next_line` gives what the next line says, keeps the place sound and moves on. Assumes nothing.
-use mathlib.Core.Path.{_≡_, refl, sym, ap, _∙_, subst}
-use mathlib.Core.List.{List}
-use Prim.Native.Nat.{ℕ}
-use borrow.Author.Needs.{needs}
-use Rattle.std.specs.declared.result.Result.the-variants.{Ok, Err}
+use mathlib.Core.Path.{sym, ap, _∙_, subst}
+use Rattle.std.specs.declared.result.Result.the-variants.{Err}
 use Rattle.std.proofs.shelf.Results.{err-from-errBy}
 use Rattle.layout.specs.Contents.{content, next-content}
 use Rattle.layout.specs.Layout.{lines}
 use Rattle.layout.specs.Lines.{line-of}
 use Rattle.layout.specs.Places.{Sound, next-place}
-use Rattle.layout.specs.Plans.{read-next, next-of, place-after}
+use Rattle.layout.specs.Plans.{next-of, place-after}
 use Rattle.layout.proofs.LineKinds.{sound-next, line-at-ok, line-at-err, read-there}
 use Rattle.layout.proofs.Parts.{comment-part}
 use Rattle.plan.specs.Unread.{unread}
