@@ -1,3 +1,4 @@
+-- The laws of plan files, from the parts of a file to the law of reading. Assumes nothing.
 pub mod Splits
 pub mod Decimals
 pub mod Numbers

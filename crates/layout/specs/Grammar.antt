@@ -8,7 +8,7 @@ use lib.ListN.{length, replicate}
 use Rattle.network.specs.Tracks.{open-track}
 use Rattle.network.specs.declared.track.Track.{Track}
 
--- a text without a line feed
+-- a text without a line feed, which is the byte 10
 abbrev pub NoFeed : List ℕ → Type 0
 NoFeed [] = Unit {0}
 NoFeed (b ∷ bs) = (b ≡ 10 → ⊥) × NoFeed bs
@@ -23,7 +23,7 @@ pub data Lines : List ℕ → List (List ℕ) → Type 0 where
   no-bytes : Lines [] []
   some-bytes : (bytes line rest : List ℕ) (ls : List (List ℕ)) → 0 < length bytes → FirstLine bytes line rest → Lines rest ls → Lines bytes (line ∷ ls)
 
--- one or more spaces: one, and k more
+-- one or more spaces, each the byte 32: one, and k more
 abbrev pub gap : ℕ → List ℕ
 gap k = replicate (suc k) 32
 
@@ -37,11 +37,11 @@ pub record Begins (letter l : List ℕ) : Type 0 where
   pub written : l ≡ letter ++ rest
   pub apart : Apart rest
 
--- c and any text
+-- a comment: c and any text
 abbrev pub CommentLine : List ℕ → Type 0
 CommentLine l = Begins (codes "c") l
 
--- decimal digits, and the number that they write
+-- decimal digits, of which d is the byte 48 + d, and the number that they write
 pub data Digits : List ℕ → ℕ → Type 0 where
   no-digit : Digits [] 0
   one-more : (v : List ℕ) (n d : ℕ) → Digits v n → d < 10 → Digits (v ++ (48 + d) ∷ []) (n * 10 + d)
@@ -52,7 +52,7 @@ pub record Numeral (v : List ℕ) (n : ℕ) : Type 0 where
   pub some : 1 ≤ length v
   pub few : length v ≤ 4
 
--- p edge N E: N is at most 512 and E at most 2048
+-- p edge N E: the number of points N is at most 512, and that of edges E at most 2048
 pub record ProblemLine (l : List ℕ) (points edges : ℕ) : Type 0 where
   pub before-word : ℕ
   pub before-first : ℕ

@@ -1,3 +1,4 @@
+-- What plan files are, from the parts of a file to the law of reading. Assumes nothing.
 pub mod Faults
 pub mod Layout
 pub mod Lines

@@ -13,6 +13,7 @@ pub enum NumberFault {
     Wrong,
 }
 
+// A line is of no known kind, stands where it may not, or has a wrong number: the first of these that is so.
 #[derive(Clone, Copy, PartialEq, Eq, Debug)]
 pub enum LineFault {
     UnknownKind,

@@ -1,5 +1,6 @@
 // One line of a plan, and where in the plan it stands.
 
+// What a line says.
 #[derive(Clone, Copy)]
 pub enum Line<'a> {
     // the whole line, as it stands in the input

@@ -5,6 +5,7 @@ use layout::line::Place;
 
 mod methods;
 
+// The lines of a file that are still to be read, and where in the plan the next one stands.
 #[derive(Drop)]
 pub struct Reader<'a> {
     bytes: &'a [u8],
