@@ -1,16 +1,26 @@
-// Track tables as text.
+// Track tables as text: what the program `tracktable` prints for the bytes of a plan file.
 ghost use mathlib.Core.Path.{_≡_};
 ghost use mathlib.Core.List.{_++_};
 ghost use Prim.Native.Nat.{_<_};
 ghost use Rattle.std.specs.Of.String.{string-bytes};
 ghost use Rattle.std.specs.Vec.{made};
+ghost use Rattle.network.specs.Refusals.{refusal-number};
 ghost use Rattle.network.specs.Tracks.{track-at};
+ghost use Rattle.listing.specs.Printed.{printed};
 ghost use Rattle.listing.specs.Rows.{row, row-of, loop-of, state-word, summary-line, table-text, refused-text};
+use layout::faults::FileFault;
 use network::Network;
+use network::track::Refusal;
 use network::track::Track;
 use network::track_at;
+use plan::read_plan;
 use std::alloc::AllocError;
 use std::alloc::Global;
+use table::Table;
+use table::TableNetwork;
+
+// A longer file is refused unread.
+pub const MOST_BYTES: usize = 65536;
 
 // The word for the state of a track.
 fn state_word(shut: bool) -> &'static str
@@ -50,9 +60,11 @@ fn push_row<N: Network>(
 }
 
 // The line for a refusal.
-fn refused_text(heap: Global, number: u8, line: usize) -> Result<String, AllocError>
-    ensures { λ r. ⌜ made r (λ s. string-bytes s ≡ refused-text number line) ⌝ }
+fn refused_text(heap: Global, fault: FileFault) -> Result<String, AllocError>
+    ensures { λ r. ⌜ made r (λ s. string-bytes s ≡ refused-text (refusal-number (fault .refusal)) (fault .line)) ⌝ }
 {
+    let number = fault.refusal.number();
+    let line = fault.line;
     format!(heap, "refused {number} {line}\r\n")
 }
 
@@ -85,4 +97,24 @@ pub fn table_text<N: Network>(heap: Global, network: &N, points: u16) -> Result<
     let summary = summary_text(heap, network.count(), points, loops)?;
     text.push_str(summary.as_str())?;
     Ok(text)
+}
+
+// What `tracktable` prints for a file: its track table, or the line that refuses it.
+pub fn printed_text(heap: Global, input: &[u8]) -> Result<String, AllocError>
+    ensures { λ r. ⌜ made r (λ s. string-bytes s ≡ printed (now (input .entry))) ⌝ }
+{
+    if input.len() > MOST_BYTES {
+        return refused_text(
+            heap,
+            FileFault {
+                refusal: Refusal::OutOfPlace,
+                line: 0,
+            },
+        );
+    }
+    let mut table = Table::new(heap)?;
+    match read_plan(input, &mut table) {
+        Ok(points) => table_text(heap, &table, points),
+        Err(fault) => refused_text(heap, fault),
+    }
 }
