@@ -5,7 +5,7 @@ pub mod Fronts
 pub mod Cuts
 pub mod Tests
 pub mod Acyclic
-pub mod Names
+pub mod Represented
 pub mod Counting
 pub mod Grouping
 pub mod Parting

@@ -1,9 +1,10 @@
 -- The yard of some tracks of y: its links, and what one track more joins. Assumes nothing.
-use mathlib.Core.Path.{_≡_, refl, ap₂, subst}
+use mathlib.Core.Path.{_≡_, refl, ap, ap₂, subst}
 use mathlib.Core.List.{List, [], _∷_}
 use mathlib.Core.Bool.{Bool, true, false, cond, _&&_}
 use mathlib.Core.Logic.{_⊎_, inl, inr, ⊎-elim, ⊎-map}
 use Prim.Native.Nat.{ℕ, zero, suc}
+use lib.ListN.{length}
 use Rattle.std.proofs.shelf.Tests.{true≢false, cases-bool}
 use Rattle.network.specs.declared.track.Track.{Track}
 use Rattle.graph.specs.Yards.{Link, Joined, Ends, Open, track, only, closed, none}
@@ -17,6 +18,10 @@ pub track-only : (keep : ℕ → Bool) (y : List Track) (t : ℕ) → track (onl
 track-only keep [] t = cond-same (keep t) none
 track-only keep (x ∷ y) zero = refl
 track-only keep (x ∷ y) (suc t) = track-only (λ u. keep (suc u)) y t
+
+pub length-only : (keep : ℕ → Bool) (y : List Track) → length (only keep y) ≡ length y
+length-only keep [] = refl
+length-only keep (x ∷ y) = ap suc (length-only (λ t. keep (suc t)) y)
 
 closed-twice : (k l : Bool) (x : Track) → cond k (cond l x (closed x)) (closed (cond l x (closed x))) ≡ cond (k && l) x (closed x)
 closed-twice true l x = refl

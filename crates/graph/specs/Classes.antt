@@ -2,7 +2,7 @@
 use mathlib.Core.Path.{_≡_}
 use mathlib.Core.List.{List}
 use mathlib.Core.Bool.{Bool, true}
-use mathlib.Core.Logic.{_≢_}
+use mathlib.Core.Logic.{_⊎_, _≢_}
 use Prim.Native.Nat.{ℕ, _≤_}
 use lib.ListN.{length}
 use Rattle.network.specs.declared.track.Track.{Track}
@@ -19,6 +19,10 @@ pub record CutClass (y : List Track) (S : ℕ → Bool) : Type 0 where
   pub all-open : (t : ℕ) → In S t → Open y t
   pub any-two : (t u : ℕ) → In S t → In S u → t ≢ u → CutPair y t u
   pub no-further : (v : ℕ) → ((t : ℕ) → In S t → CutPair y v t) → ⊥
+
+-- u is t, or makes a cut pair with it
+abbrev pub Fellow : List Track → ℕ → ℕ → Type 0
+Fellow y t u = (u ≡ t) ⊎ CutPair y t u
 
 -- the lead of a class: its lowest track number
 abbrev pub Lowest : (ℕ → Bool) → ℕ → Type 0

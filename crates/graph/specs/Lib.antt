@@ -3,4 +3,5 @@ pub mod Counts
 pub mod Forests
 pub mod Groups
 pub mod Classes
+pub mod Representing
 pub mod Laws

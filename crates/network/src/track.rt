@@ -17,6 +17,7 @@ pub enum Refusal {
     NoSuchPoint = 4,
     Full = 5,
     NoSuchSize = 6,
+    WrongLength = 7,
     UnknownLine = 12,
     OutOfPlace = 13,
     WrongNumber = 14,

@@ -1,0 +1,3 @@
+pub mod Partitions
+pub mod Meaning
+pub mod Asked
