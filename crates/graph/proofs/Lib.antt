@@ -10,3 +10,4 @@ pub mod Counting
 pub mod Grouping
 pub mod Parting
 pub mod Classing
+pub mod Examples

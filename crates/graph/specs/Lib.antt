@@ -5,3 +5,4 @@ pub mod Groups
 pub mod Classes
 pub mod Representing
 pub mod Laws
+pub mod Worked

@@ -2,6 +2,7 @@
 //
 // Each function's contract is a law about the definitions in `specs/`, and the function gives nothing else.
 ghost use Rattle.graph.specs.Laws.{JoinedLaws, OneTrackMore, Decided, ByEnds, PairLaws, ForestLaws, OneAnswer, GroupLaws};
+ghost use Rattle.graph.specs.Worked.{WorkedYards};
 
 // Joined is an equivalence, and grows with the open tracks; what one more track joins.
 pub fn joining_laws()
@@ -30,3 +31,9 @@ pub fn counting_laws()
     ensures groups { λ _. ⌜ GroupLaws ⌝ }
     ensures one { λ _. ⌜ OneAnswer ⌝ }
 {}
+
+// The bridges and the classes of five small yards.
+pub fn worked_yards()
+    ensures { λ _. ⌜ WorkedYards ⌝ }
+{
+}
