@@ -35,5 +35,4 @@ pub fn counting_laws()
 // The bridges and the classes of five small yards.
 pub fn worked_yards()
     ensures { λ _. ⌜ WorkedYards ⌝ }
-{
-}
+{}

@@ -1,4 +1,5 @@
 -- A network's tracks as text: CSV with a header, and a line that counts them. Assumes nothing.
+use mathlib.Core.Path.{_≡_}
 use mathlib.Core.List.{List, [], _∷_, _++_}
 use mathlib.Core.Bool.{Bool, false, cond}
 use Prim.Native.Nat.{ℕ, _+_}
@@ -9,6 +10,8 @@ use Rattle.std.specs.Written.{decimal}
 use Rattle.std.specs.declared.option.Option.{Option}
 use Rattle.std.specs.declared.option.Option.the-variants.{Some, None}
 use Rattle.network.specs.declared.track.Track.{Track}
+use Rattle.graph.specs.Forests.{WordsNeeded}
+use Rattle.graph.specs.Groups.{GroupCount}
 
 -- a line of CSV: its fields, parted by commas, and CR LF
 abbrev pub csv-line : List (List ℕ) → List ℕ
@@ -48,14 +51,22 @@ abbrev pub loop-of : Option Track → Bool
 loop-of None = false
 loop-of (Some t) = eqb (t .first) (t .second)
 
--- the last line: read a plan: tracks T, points P, loops L
-abbrev pub summary-line : ℕ → ℕ → ℕ → List ℕ
-summary-line tracks points loops =
-    codes "read a plan: tracks " ++ (decimal tracks ++ (codes ", points " ++ (decimal points ++ (codes ", loops " ++ (decimal loops ++ (13 ∷ 10 ∷ []))))))
+-- the last line: read a plan: tracks T, points P, loops L, groups G, words W
+abbrev pub summary-line : ℕ → ℕ → ℕ → ℕ → ℕ → List ℕ
+summary-line tracks points loops groups words =
+    codes "read a plan: tracks " ++ (decimal tracks
+    ++ (codes ", points " ++ (decimal points
+    ++ (codes ", loops " ++ (decimal loops
+    ++ (codes ", groups " ++ (decimal groups
+    ++ (codes ", words " ++ (decimal words ++ (13 ∷ 10 ∷ []))))))))))
 
--- the whole table of a plan with so many points
-abbrev pub table-text : ℕ → List Track → List ℕ
-table-text points ts = header ++ (rows 0 ts ++ summary-line (length ts) points (loop-count ts))
+-- the text is the whole table of a plan with so many points and these tracks: the groups and the words are the yard's
+pub record TableText (points : ℕ) (ts : List Track) (text : List ℕ) : Type 0 where
+  pub groups : ℕ
+  pub words : ℕ
+  pub groups-are : GroupCount ts groups
+  pub words-are : WordsNeeded ts words
+  pub written : text ≡ header ++ (rows 0 ts ++ summary-line (length ts) points (loop-count ts) groups words)
 
 -- the line for a refusal, with its number and the number of the line: refused R L
 abbrev pub refused-text : ℕ → ℕ → List ℕ

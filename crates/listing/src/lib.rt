@@ -6,8 +6,8 @@ ghost use Rattle.std.specs.Of.String.{string-bytes};
 ghost use Rattle.std.specs.Vec.{made};
 ghost use Rattle.network.specs.Refusals.{refusal-number};
 ghost use Rattle.network.specs.Tracks.{track-at};
-ghost use Rattle.listing.specs.Printed.{printed};
-ghost use Rattle.listing.specs.Rows.{row, row-of, loop-of, state-word, summary-line, table-text, refused-text};
+ghost use Rattle.listing.specs.Printed.{Printed};
+ghost use Rattle.listing.specs.Rows.{header, rows, row, row-of, loop-of, loop-count, state-word, summary-line, TableText, refused-text};
 use layout::faults::FileFault;
 use network::Network;
 use network::track::Refusal;
@@ -18,6 +18,7 @@ use std::alloc::AllocError;
 use std::alloc::Global;
 use table::Table;
 use table::TableNetwork;
+use yard::Yard;
 
 // A longer file is refused unread.
 pub const MOST_BYTES: usize = 65536;
@@ -68,24 +69,27 @@ fn refused_text(heap: Global, fault: FileFault) -> Result<String, AllocError>
     format!(heap, "refused {number} {line}\r\n")
 }
 
-// The last line, for a plan with so many tracks, points and loops.
+// The last line, by its numbers.
 fn summary_text(
     heap: Global,
     tracks: usize,
     points: u16,
     loops: usize,
+    groups: usize,
+    words: usize,
 ) -> Result<String, AllocError>
-    ensures { λ r. ⌜ made r (λ s. string-bytes s ≡ summary-line tracks points loops) ⌝ }
+    ensures { λ r. ⌜ made r (λ s. string-bytes s ≡ summary-line tracks points loops groups words) ⌝ }
 {
     format!(
         heap,
-        "read a plan: tracks {tracks}, points {points}, loops {loops}\r\n"
+        "read a plan: tracks {tracks}, points {points}, loops {loops}, groups {groups}, words {words}\r\n"
     )
 }
 
-// The track table of a network that was read from a plan with so many points: CSV, and a line that counts.
-pub fn table_text<N: Network>(heap: Global, network: &N, points: u16) -> Result<String, AllocError>
-    ensures { λ r. ⌜ made r (λ s. string-bytes s ≡ table-text points (tracks (now (network .entry)))) ⌝ }
+// The header and the lines of the tracks, and how many of them are loops.
+fn rows_text<N: Network>(heap: Global, network: &N) -> Result<(String, usize), AllocError>
+    ensures text { λ r. ⌜ made r (λ p. string-bytes (p .0) ≡ header ++ rows 0 (tracks (now (network .entry)))) ⌝ }
+    ensures loops { λ r. ⌜ made r (λ p. p .1 ≡ loop-count (tracks (now (network .entry)))) ⌝ }
 {
     let mut text = String::from_str(heap, "track,first,second,state\r\n")?;
     let mut loops = 0;
@@ -94,14 +98,25 @@ pub fn table_text<N: Network>(heap: Global, network: &N, points: u16) -> Result<
             loops += 1;
         }
     }
-    let summary = summary_text(heap, network.count(), points, loops)?;
+    Ok((text, loops))
+}
+
+// The track table of a network that was read from a plan with so many points: CSV, and a line that counts.
+pub fn table_text<N: Network>(heap: Global, network: &N, points: u16) -> Result<String, AllocError>
+    ensures { λ r. ⌜ made r (λ s. TableText points (tracks (now (network .entry))) (string-bytes s)) ⌝ }
+{
+    let (mut text, loops) = rows_text(heap, network)?;
+    let yard = Yard::of(heap, network)?;
+    let groups = yard.group_count();
+    let words = yard.words_needed();
+    let summary = summary_text(heap, network.count(), points, loops, groups, words)?;
     text.push_str(summary.as_str())?;
     Ok(text)
 }
 
 // What `tracktable` prints for a file: its track table, or the line that refuses it.
 pub fn printed_text(heap: Global, input: &[u8]) -> Result<String, AllocError>
-    ensures { λ r. ⌜ made r (λ s. string-bytes s ≡ printed (now (input .entry))) ⌝ }
+    ensures { λ r. ⌜ made r (λ s. Printed (now (input .entry)) (string-bytes s)) ⌝ }
 {
     if input.len() > MOST_BYTES {
         return refused_text(

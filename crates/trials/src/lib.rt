@@ -3,3 +3,5 @@
 mod networks;
 #[cfg(test)]
 mod plans;
+#[cfg(test)]
+mod yards;

@@ -1,39 +1,29 @@
-use mathlib.Core.Path.{_≡_, sym, ap, _∙_}
-use mathlib.Core.Bool.{true, false}
-use mathlib.Core.List.{List, _++_}
-use Prim.Native.Nat.{ℕ, _<_, _≤_}
-use native.Mathlib.Omega.{arith}
+use mathlib.Core.Path.{_≡_, ap, subst, _∙_}
+use mathlib.Core.List.{_++_}
 use lib.ListN.{length}
 use Rattle.std.specs.Of.String.{string-bytes}
 use Rattle.std.proofs.shelf.Lists.{append-assoc}
+use Rattle.graph.specs.Forests.{WordsNeeded}
+use Rattle.graph.specs.Groups.{GroupCount}
 use Rattle.listing.specs.Rows.{header, rows, loop-count, summary-line}
-use Rattle.listing.proofs.Steps.{rows-more, loops-more, rows-end, loops-end}
 use Rattle.listing.proofs.table_text.Needs as need
-use Rattle.listing.proofs.table_text.Needs.{then-branch, else-branch}
-
-pub loop-number-again : need.loop-number-again
-loop-number-again g c =
-    let ts = g .N·Network .tracks (c .args .network .now) in
-    let k = c .loop-number .number in
-    let within : k < length ts = omega arith in
-    let text = rows-more ts k within _ _ _ (c .in-Continue-push-row .ensures tt .text) (c .loop-number .inv .2) in
-    elim (c .if-branch .came) [
-      | then-branch w ↦ let m = loops-more ts k within true (sym (w .if-branch .taken) ∙ c .in-Continue-push-row .ensures tt .value) in (omega (arith, w .loops-is), omega (arith, w .loops-is), text)
-      | else-branch w ↦ let m = loops-more ts k within false (sym (w .if-branch .left) ∙ c .in-Continue-push-row .ensures tt .value) in (omega (arith, w .loops-is), omega (arith, w .loops-is), text)
-    ]
 
 pub returns : need.returns
 returns g c =
     let ts = g .N·Network .tracks (c .args .network .now) in
-    let k = c .loop-number .number in
-    let points = c .args .points in
-    let past : length ts ≤ k = omega arith in
-    let none = loops-end ts k past in
-    let loops : c .loop-number .loops ≡ loop-count ts = omega arith in
-    let written = rows-end ts k (string-bytes (c .loop-number .text)) (header ++ rows 0 ts) past (c .loop-number .inv .2) in
-    c .in-Continue-push-str .ensures tt .bytes
-    ∙ ap (λ x. string-bytes (c .loop-number .text) ++ x) (c .as-str .ensures .value ∙ c .in-Continue-summary .ensures tt)
-    ∙ ap (λ x. x ++ summary-line (c .count .result) points (c .loop-number .loops)) written
-    ∙ ap (λ n. (header ++ rows 0 ts) ++ summary-line n points (c .loop-number .loops)) (c .count .ensures)
-    ∙ ap (λ n. (header ++ rows 0 ts) ++ summary-line (length ts) points n) loops
-    ∙ append-assoc header (rows 0 ts) (summary-line (length ts) points (loop-count ts))
+    let groups = c .group-count-groups .result in
+    let words = c .words-needed-words .result in
+    let copied = c .in-Continue-yard .ensures tt in
+    record {
+      groups = groups;
+      words = words;
+      groups-are = subst (λ us. GroupCount us groups) copied (c .group-count-groups .ensures);
+      words-are = subst (λ us. WordsNeeded us words) copied (c .words-needed-words .ensures);
+      written =
+          c .in-Continue-push-str .ensures tt .bytes
+          ∙ ap (λ x. string-bytes (c .in-Continue-text .text) ++ x) (c .as-str .ensures .value ∙ c .in-Continue-summary .ensures tt)
+          ∙ ap (λ x. x ++ summary-line (c .count .result) (c .args .points) (c .in-Continue-text .loops) groups words) (c .in-Continue-text .ensures tt .text)
+          ∙ ap (λ n. (header ++ rows 0 ts) ++ summary-line n (c .args .points) (c .in-Continue-text .loops) groups words) (c .count .ensures)
+          ∙ ap (λ n. (header ++ rows 0 ts) ++ summary-line (length ts) (c .args .points) n groups words) (c .in-Continue-text .ensures tt .loops)
+          ∙ append-assoc header (rows 0 ts) (summary-line (length ts) (c .args .points) (loop-count ts) groups words);
+    }

@@ -4,7 +4,7 @@ use mathlib.Core.List.{_++_}
 use lib.ListN.{length, drop}
 use Rattle.std.specs.Of.String.{string-bytes}
 use Rattle.listing.specs.Rows.{header, rows, loop-count}
-use Rattle.listing.proofs.table_text.Given as given
+use Rattle.listing.proofs.rows_text.Given as given
 
 abbrev pub Inv-loop-number : given.InvT-loop-number
 Inv-loop-number g l =
