@@ -9,7 +9,7 @@ ghost use Rattle.annex.specs.Annexed.{annexed};
 ghost use Rattle.tied.specs.Standing.{tied};
 ghost use Rattle.network.specs.Refusals.{numbered};
 ghost use Rattle.network.specs.Tracks.{open-track, state-answer, state-after};
-ghost use Rattle.layers.specs.declared.Fault.the-variants.{Memory, Refusing};
+ghost use Rattle.layers.specs.declared.Fault.the-variants.{Memory, Answered};
 ghost use Rattle.layers.specs.Counts.{open-count};
 ghost use Rattle.layers.specs.Piles.{pile-tracks};
 use annex::Annex;
@@ -30,7 +30,7 @@ use tied::TiedNetwork;
 #[derive(Drop)]
 enum Fault {
     Memory,
-    Refusing(Refusal),
+    Answered(Refusal),
     Io,
 }
 
@@ -51,10 +51,10 @@ impl<T: Drop> From<Refused<T>> for Fault as FaultFromRefused {
 }
 
 impl From<Refusal> for Fault as FaultFromRefusal {
-    ghost converts = { λ e r. r ≡ Refusing e };
+    ghost converts = { λ e r. r ≡ Answered e };
 
     fn from(e: Refusal) -> Fault {
-        Fault::Refusing(e)
+        Fault::Answered(e)
     }
 }
 
@@ -135,37 +135,57 @@ fn tower(heap: Global) -> Result<usize, Fault>
     Ok(high.count())
 }
 
+// The number of a refusal, or 0 for an accepted call.
+fn number(answer: Result<(), Refusal>) -> u8 {
+    match answer {
+        Ok(()) => 0,
+        Err(refusal) => refusal.number(),
+    }
+}
+
+// Shuts a track and tells the answer.
+fn tell_shutting(
+    rt: &LibcRuntime,
+    pile: &mut Annex<Tied<Table>>,
+    track: usize,
+) -> Result<(), Fault> {
+    match number(pile.shut(track)) {
+        0 => println!(rt, "shut track {track}: accepted")?,
+        refusal => println!(rt, "shut track {track}: refused with {refusal}")?,
+    }
+    Ok(())
+}
+
 fn main(rt: LibcRuntime) -> Result<(), Fault> {
+    println!(
+        rt,
+        "a table of two tracks, with 7 standing for 1, and an annex of one track"
+    )?;
     let mut pile = build(rt.alloc())?;
     let count = pile.count();
     for track in 0..count {
         if let Some((first, second)) = pile.ends(track) {
-            println!(rt, "{track}: {first} to {second}")?;
+            println!(rt, "track {track}: {first} to {second}")?;
         }
     }
     let open = open_in_pile(&pile);
     println!(rt, "{count} tracks, {open} open")?;
     shut_in_pile(&mut pile, 2)?;
     let open = open_in_pile(&pile);
-    println!(rt, "{open} open")?;
+    println!(rt, "shut track 2: accepted, {open} open")?;
     for track in 2..4 {
-        match pile.shut(track) {
-            Ok(()) => println!(rt, "shut")?,
-            Err(refusal) => {
-                let number = refusal.number();
-                println!(rt, "refused: {number}")?;
-            }
-        }
+        tell_shutting(&rt, &mut pile, track)?;
     }
-    if let Err(refusal) = shut_above(&mut pile, 7) {
-        let number = refusal.number();
-        println!(rt, "refused: {number}")?;
-    }
+    let above = number(shut_above(&mut pile, 7));
+    println!(rt, "shut track 7: refused with {above}")?;
     let mut fan = Fan::new();
     let mut same = Tied::new(Fan::new());
     let both = shut_both(&mut fan, &mut same, 0);
-    println!(rt, "both: {both}")?;
+    println!(rt, "a fan and a tied fan shut track 0 alike: {both}")?;
     let high = tower(rt.alloc())?;
-    println!(rt, "{high} tracks in the tower")?;
+    println!(
+        rt,
+        "a fan of 3, tied, annexed and tied again: {high} tracks"
+    )?;
     Ok(())
 }
