@@ -11,8 +11,9 @@ use Rattle.graph.specs.Forests.{InForest, WordsNeeded}
 use Rattle.graph.specs.Groups.{Touched, LeadsGroup, GroupCount}
 use Rattle.graph.specs.Classes.{In, CutClass, InClass}
 
--- joined is an equivalence (reflexive by its definition), and more open tracks join more
+-- joined is an equivalence, and more open tracks join more
 pub record JoinedLaws : Type 0 where
+  pub itself : (y : List Track) (a : ℕ) → Joined y a a
   pub back : (y : List Track) (a b : ℕ) → Joined y a b → Joined y b a
   pub on : (y : List Track) (a b c : ℕ) → Joined y a b → Joined y b c → Joined y a c
   pub wider : (y z : List Track) → ((t : ℕ) → Open y t → track z t ≡ track y t) → (a b : ℕ) → Joined y a b → Joined z a b
@@ -31,6 +32,7 @@ pub record Decided : Type 0 where
   pub bridge : (test : List Track → ℕ → Bool) × ((y : List Track) (t : ℕ) → Decides (test y t) (Bridge y t))
   pub pair : (test : List Track → ℕ → ℕ → Bool) × ((y : List Track) (t u : ℕ) → Decides (test y t u) (CutPair y t u))
   pub parts : (test : List Track → ℕ → ℕ → Bool) × ((y : List Track) (t u : ℕ) → Decides (test y t u) (Parts y (t ∷ u ∷ [])))
+  pub touched : (test : List Track → ℕ → Bool) × ((y : List Track) (p : ℕ) → Decides (test y p) (Touched y p))
   pub forest : (test : List Track → ℕ → Bool) × ((y : List Track) (t : ℕ) → Decides (test y t) (InForest y t))
 
 -- bridges and cut pairs by the ends of one track
