@@ -98,7 +98,7 @@ module _ (y : List Track) where
 
   -- a part of the yard that keeps the forest joins what the yard does
   module _ (keep : ℕ → Bool) (forest : (t : ℕ) → InForest y t → keep t ≡ true) where
-    spans-front : (n : ℕ) {a b : ℕ} → Joined (take n y) a b → Joined (only keep y) a b
+    pub spans-front : (n : ℕ) {a b : ℕ} → Joined (take n y) a b → Joined (only keep y) a b
     spans-front zero {a} {b} j = rw (sym (from-nothing a b j)) here
     spans-front (suc n) j = more (λ c d l.
         ⊎-elim
