@@ -1,6 +1,6 @@
 // What is asked of a yard.
 ghost use mathlib.Core.Path.{_≡_};
-ghost use mathlib.Core.Bool.{false, not, _&&_};
+ghost use mathlib.Core.Bool.{false, not, _&&_, _||_};
 ghost use mathlib.Core.List.{[], _∷_};
 ghost use Prim.Native.Nat.{ℕ, _<_};
 ghost use lib.ListN.{length, getD};
@@ -74,6 +74,15 @@ impl Yard {
         !one.shut && !points.same(one.first, one.second)
     }
 
+    // The same of one of two tracks.
+    fn any_split(&self, points: &Partition, t: usize, u: usize) -> bool
+        requires first { ⌜ t < length (yard-tracks (now self)) ⌝ }
+        requires second { ⌜ u < length (yard-tracks (now self)) ⌝ }
+        ensures { λ r. ⌜ r ≡ split (now (points .entry) .reps) (track (yard-tracks (now (self .entry))) t) || split (now (points .entry) .reps) (track (yard-tracks (now (self .entry))) u) ⌝ }
+    {
+        self.is_split(points, t) || self.is_split(points, u)
+    }
+
     // Whether open tracks lead from a to b. A point above 511 is joined to itself alone.
     pub fn are_joined(&self, a: u16, b: u16) -> bool
         ensures { λ r. ⌜ Decides r (Joined (yard-tracks (now (self .entry))) a b) ⌝ }
@@ -104,7 +113,7 @@ impl Yard {
             return Err(Refusal::NoSuchTrack);
         }
         let points = self.partition_without(t, u);
-        Ok(self.is_split(&points, t) || self.is_split(&points, u))
+        Ok(self.any_split(&points, t, u))
     }
 
     // How many words a labelling needs: one for each open track outside the forest.
