@@ -1,6 +1,8 @@
 // A layer over any network, with up to 64 tracks of its own above those below.
 //
 // `Annex::new` takes the memory for its own tracks at once; no later call needs any.
+#![tactic(auto)]
+
 ghost use Rattle.std.specs.Prelude.{◌≡◌, ◌-◌, ◌≤◌, min, [], length, IfOk, IfErr, vec_len, vec_capacity, refl};
 ghost use Rattle.network.specs.Refusals.{numbered};
 ghost use Rattle.network.specs.Tracks.{Points, track_at};

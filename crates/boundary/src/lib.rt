@@ -1,6 +1,8 @@
 // Tracks as callers in C or Rust give them, as a list, and the yard of such tracks.
 //
 // What goes wrong is told by a status: 4 for a point above 511, 5 for more than 2,048 tracks, 255 for want of memory.
+#![tactic(auto)]
+
 ghost use Rattle.std.specs.Prelude.{◌≡◌, ◌<◌, [], ◌∷◌, ◌++◌, length, IfOk, MatchResult};
 ghost use Rattle.network.specs.Tracks.{Limits};
 ghost use Rattle.table.specs.Laying.{table_tracks};

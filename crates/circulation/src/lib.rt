@@ -1,6 +1,8 @@
 // The theory of balanced labels, for every kind of labels.
 //
 // Each function's contract is a law about the definitions in `specs/`, and the function gives nothing else.
+#![tactic(auto)]
+
 ghost use Rattle.circulation.specs.Laws.{BalanceLaws, TellingLaws, LabellingLaws, UnitLaws};
 
 use label::Label;

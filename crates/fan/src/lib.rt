@@ -1,4 +1,6 @@
 // A network of parallel roads whose neighbouring ends are joined. It stores no points, only the states.
+#![tactic(auto)]
+
 ghost use Rattle.std.specs.Prelude.{◌≡◌, length};
 ghost use Rattle.fan.specs.Roads.{Roads};
 

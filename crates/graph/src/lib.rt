@@ -1,6 +1,8 @@
 // The theory of yards: which points are joined, what parts them, forests, groups and classes.
 //
 // Each function's contract is a law about the definitions in `specs/`, and the function gives nothing else.
+#![tactic(auto)]
+
 ghost use Rattle.graph.specs.Laws.{JoinedLaws, OneTrackMore, Decided, ByEnds, PairLaws, ForestLaws, OneAnswer, GroupLaws};
 ghost use Rattle.graph.specs.Worked.{WorkedYards};
 

@@ -1,5 +1,7 @@
 // Reads a plan from standard input and labels of kind X from its arguments, one for each track, judges them, and prints the sheet
 // and its totals, or why they are refused.
+#![tactic(auto)]
+
 use judging::judge;
 use label::xor::Xor;
 use listing::{MOST_BYTES, TOO_LONG, refused_text};

@@ -1,6 +1,8 @@
 // Labels of tracks: a commutative group into which words are drawn, and three kinds of it.
 //
 // Code over labels takes any `K: Label`, and is proved from the ghost members `group`, `drawn` and `named` alone.
+#![tactic(auto)]
+
 ghost use Rattle.std.specs.Prelude.{◌≡◌, ℕ, Decides};
 ghost use Rattle.label.specs.Groups.{Group};
 

@@ -1,4 +1,5 @@
 // Labels on the tracks of a yard: whether they balance, and the one labelling that words draw.
+#![tactic(auto)]
 
 mod balance;
 mod chains;

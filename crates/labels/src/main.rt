@@ -1,5 +1,7 @@
 // Reads a plan from standard input and words from its arguments, draws labels of the kinds X, S and B on the plan's
 // tracks, and prints them, or why it is refused.
+#![tactic(auto)]
+
 use listing::MOST_BYTES;
 use std::env;
 use std::io::Read;

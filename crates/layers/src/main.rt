@@ -1,4 +1,6 @@
 // Layers on layers: a table, tied and annexed, and a fan, through the one interface.
+#![tactic(auto)]
+
 ghost use Rattle.std.specs.Prelude.{◌≡◌, true, [], ◌∷◌, is_ok, IfOk};
 ghost use Rattle.annex.specs.Annexed.{annexed};
 ghost use Rattle.tied.specs.Standing.{tied};

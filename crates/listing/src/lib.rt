@@ -1,4 +1,6 @@
 // Track tables as text: what the program `tracktable` prints for the bytes of a plan file.
+#![tactic(auto)]
+
 ghost use Rattle.std.specs.Prelude.{◌≡◌, ◌<◌, ◌++◌, IfOk, string_bytes, OnOk};
 ghost use Rattle.network.specs.Refusals.{refusal_number};
 ghost use Rattle.network.specs.Tracks.{track_at};

@@ -2,6 +2,8 @@
 //
 // A network has the points 0 to 511 and up to 2,048 tracks, numbered from 0 without gaps. Code over
 // networks takes any `N: Network`, and is proved from the meaning `tracks` alone.
+#![tactic(auto)]
+
 ghost use Rattle.std.specs.Prelude.{◌≡◌, true, false, List, length};
 ghost use Rattle.network.specs.Refusals.{refusal_number, numbered};
 ghost use Rattle.network.specs.Tracks.{Limits, track_at, ends_at, open_at, state_answer, state_after, are_points, each_point, change_answer};
@@ -98,7 +100,7 @@ pub fn change(wanted: bool, shut: bool) -> Result<(), Refusal>
 
 // Any network: the track with a number, as one record, or None where there is no such track.
 pub fn track_at<N: Network>(network: &N, number: usize) -> Option<Track>
-    ensures { result ≡ track_at (tracks network.now) number }
+    ensures { result ≡ track_at (N.tracks network.now) number }
 {
     let (first, second) = network.ends(number)?;
     let shut = !network.is_open(number);

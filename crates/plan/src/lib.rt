@@ -2,6 +2,8 @@
 //
 // `read_plan(bytes, &mut table)` leaves the tracks of an accepted plan in the table, all open, and answers
 // how many points it has. `Reader` gives the lines one by one.
+#![tactic(auto)]
+
 ghost use Rattle.std.specs.Prelude.{◌≡◌, true, [], is_ok, if◌then◌else◌};
 ghost use Rattle.layout.specs.Contents.{content};
 ghost use Rattle.layout.specs.FileFaults.{Answered};

@@ -1,6 +1,8 @@
 // Sheets: the marks of the tracks of a yard, and what is asked of them.
 //
 // A sheet is made blank, with its memory taken at once, and is then given its letter and marks.
+#![tactic(auto)]
+
 ghost use Rattle.sheet.specs.Marks.{MarkLaws};
 
 mod asked;

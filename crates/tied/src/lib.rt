@@ -1,4 +1,6 @@
 // A layer over any network, which shows each point as the one that stands for it.
+#![tactic(auto)]
+
 ghost use Rattle.std.specs.Prelude.{◌≡◌, ◌<◌, length};
 ghost use Rattle.network.specs.Refusals.{numbered};
 ghost use Rattle.network.specs.Tracks.{each_point};

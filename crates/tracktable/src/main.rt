@@ -1,4 +1,6 @@
 // Reads a plan from standard input and prints its track table, or why it is refused.
+#![tactic(auto)]
+
 use listing::{MOST_BYTES, printed_text};
 use std::io::Read;
 

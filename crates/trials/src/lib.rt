@@ -1,4 +1,6 @@
 // Tests at the bounds and one beyond each, many cases to a test.
+#![tactic(auto)]
+
 #[cfg(test)]
 mod networks;
 #[cfg(test)]

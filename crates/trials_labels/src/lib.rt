@@ -1,4 +1,6 @@
 // Tests of labels: small yards worked out, full yards, and kinds of labels.
+#![tactic(auto)]
+
 #[cfg(test)]
 mod full;
 #[cfg(test)]

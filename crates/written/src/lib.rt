@@ -1,6 +1,8 @@
 // Written sheets: tracks and their marks as CSV, put into a caller's bytes.
 //
 // A caller hands `write_sheet` a list of tracks, a sheet and bytes, and learns how long the text is.
+#![tactic(auto)]
+
 ghost use Rattle.std.specs.Prelude.{◌≡◌, ◌+◌, ◌*◌, ◌≤◌, true, length, take, is_ok, IfOk};
 ghost use Rattle.network.specs.Refusals.{numbered};
 ghost use Rattle.sheet.specs.Meaning.{sheet_marks};

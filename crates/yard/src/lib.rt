@@ -1,6 +1,8 @@
 // Yards: a list of tracks within the limits, as a type of its own, and what is asked of it.
 //
 // `Yard::of` makes one from any network, by its interface alone, and takes its memory at once.
+#![tactic(auto)]
+
 ghost use Rattle.std.specs.Prelude.{◌≤◌, vec_len};
 ghost use Rattle.network.specs.Tracks.{Points};
 
