@@ -45,7 +45,7 @@ module _ (below own : List Track) (count : ℕ) (counted : count ≡ length belo
   below_follows shut k h =
       ap (λ n. state_after shut below k ++ take (2048 - n) own) (length_after shut below k) ∙ sym (after_front shut below _ k (omega arith))
 
-module _ (below own : List Track) (count len few : ℕ) (counted : count ≡ length below) (own-len : len ≡ length own) (shows : few ≡ min len (2048 - count)) where
+module _ (below own : List Track) (count len few : ℕ) (counted : count ≡ length below) (own_len : len ≡ length own) (shows : few ≡ min len (2048 - count)) where
   long : length (take (2048 - length below) own) ≡ few
   long = let cut = length-take (2048 - length below) own in omega arith
 

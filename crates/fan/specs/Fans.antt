@@ -17,11 +17,11 @@ module _ (roads : ℕ) (states : List Bool) where
   pub length_fanned : length (fanned roads states) ≡ road_tracks roads
   length_fanned = length-map-range_with_len (road_track roads states) 0 (road_tracks roads)
 
-  getD_fanned : (k : ℕ) → k < road_tracks roads → slice_index_or (fanned roads states) k no_track ≡ road_track roads states k
-  getD_fanned k h = get_or-map-range_with_len (road_track roads states) 0 (road_tracks roads) k k no_track h (zero-add k)
+  get_or_fanned : (k : ℕ) → k < road_tracks roads → slice_index_or (fanned roads states) k no_track ≡ road_track roads states k
+  get_or_fanned k h = get_or-map-range_with_len (road_track roads states) 0 (road_tracks roads) k k no_track h (zero-add k)
 
   pub at_fanned : (k : ℕ) → k < road_tracks roads → track_at (fanned roads states) k ≡ Some (road_track roads states k)
-  at_fanned k h = let long = length_fanned in at_within (fanned roads states) k (omega arith) ∙ ap Some (getD_fanned k h)
+  at_fanned k h = let long = length_fanned in at_within (fanned roads states) k (omega arith) ∙ ap Some (get_or_fanned k h)
 
   pub at_outside : (k : ℕ) → road_tracks roads ≤ k → track_at (fanned roads states) k ≡ None
   at_outside k h = let long = length_fanned in at_past (fanned roads states) k (omega arith)
@@ -42,7 +42,7 @@ module _ (roads : ℕ) (states : List Bool) where
       let long = length_fanned in
       record {
         few = omega arith;
-        points = λ k h. let near : k < road_tracks roads = omega arith in subst Within (sym (getD_fanned k near)) (ends_small k r near);
+        points = λ k h. let near : k < road_tracks roads = omega arith in subst Within (sym (get_or_fanned k near)) (ends_small k r near);
       }
 
 pub put_fanned : (roads : ℕ) (states : List Bool) (shut : Bool) (k : ℕ) → k < road_tracks roads → k < length states → fanned roads (slice_set states k shut) ≡ put_state shut (fanned roads states) k
@@ -54,17 +54,17 @@ put_fanned roads states shut k h l =
     let within : k < length (fanned roads states) = omega arith in
     let here : road_track roads (slice_set states k shut) k ≡ get_or (put_state shut (fanned roads states) k) k no_track =
     ap (with_shut roads k) (get_or-set_same states k shut false l)
-    ∙ ap (with_state shut) (sym (getD_fanned roads states k h))
+    ∙ ap (with_state shut) (sym (get_or_fanned roads states k h))
     ∙ sym (get_or-set_same (fanned roads states) k new no_track within) in
     ext_get_or no_track (fanned roads (slice_set states k shut)) (put_state shut (fanned roads states) k) (left ∙ sym (right ∙ long))
     (λ j m.
     let near : j < road_tracks roads = omega arith in
-    getD_fanned roads (slice_set states k shut) j near
+    get_or_fanned roads (slice_set states k shut) j near
     ∙ ⊎_elim
     (λ e. subst (λ i. road_track roads (slice_set states k shut) i ≡ slice_index_or (put_state shut (fanned roads states) k) i no_track) (sym e) here)
     (λ e.
     ap (with_shut roads j) (get_or-set_other states k j shut false e)
-    ∙ sym (get_or-set_other (fanned roads states) k j new no_track e ∙ getD_fanned roads states j near))
+    ∙ sym (get_or-set_other (fanned roads states) k j new no_track e ∙ get_or_fanned roads states j near))
     (cases_eq j k))
 
 -- where every state is open, every track is

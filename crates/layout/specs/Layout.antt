@@ -102,7 +102,7 @@ both (Err e) r = Err e
 
 -- two fields that write numbers from low, and no other field
 abbrev pub numbers_of : ℕ → ℕ → ℕ → List (List ℕ) → Result (ℕ × ℕ) NumberFault
-numbers_of low most-first most-second [] = Err Wrong
-numbers_of low most-first most-second (a ∷ []) = Err Wrong
-numbers_of low most-first most-second (a ∷ b ∷ []) = both (number_of low most-first a) (number_of low most-second b)
-numbers_of low most-first most-second (a ∷ b ∷ w ∷ ws) = Err Wrong
+numbers_of low most_first most_second [] = Err Wrong
+numbers_of low most_first most_second (a ∷ []) = Err Wrong
+numbers_of low most_first most_second (a ∷ b ∷ []) = both (number_of low most_first a) (number_of low most_second b)
+numbers_of low most_first most_second (a ∷ b ∷ w ∷ ws) = Err Wrong
