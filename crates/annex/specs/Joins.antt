@@ -1,9 +1,9 @@
 -- A network with an annex, by the parts that it is joined from. `count` and `few` are the code's words for the tracks below and for the own ones that are shown. Assumes nothing.
-use Rattle.std.specs.Prelude.{◌≡◌, ℕ, zero, suc, ◌+◌, ◌-◌, ◌<◌, ◌≤◌, min, Bool, true, false, cond, ◌&&◌, ◌⊎◌, List, [], ◌∷◌, ◌++◌, length, take, set, is_ok, Some, None, Result, nat_lt, slice_index_or, slice_set, refl}
-use Rattle.std.proofs.Common.{sym, ap, subst, ◌∙◌, inl, inr, ⊎_elim, arith}
+use Rattle.std.specs.Prelude.{◌≡◌, ℕ, zero, suc, ◌+◌, ◌-◌, ◌<◌, ◌≤◌, min, Bool, true, false, cond, ◌&&◌, List, [], ◌∷◌, ◌++◌, length, take, set, is_ok, Some, None, Result, nat_lt, slice_index_or, slice_set, refl}
+use Rattle.std.proofs.Common.{sym, ap, subst, ◌∙◌, ⊎_elim, arith}
 use Rattle.std.proofs.lemmas.List.{length-append, length-take, get_or_append_left, get_or-append_right, get_or-take, length_push, take_all, append_assoc}
 use Rattle.std.proofs.lemmas.Bool.{cases_lt, lt-ltb, le-ltb, ltb-true, and_parts, cond-true, cond-false, cond_both}
-use Rattle.network.specs.Tracks.{no_track, are_points, open_track, Within, Points, Limits, track_at, answer_of, change_answer, with_state, put_state, state_answer, state_after}
+use Rattle.network.specs.Tracks.{no_track, are_points, open_track, Within, Points, Limits, track_at, answer_of, with_state, put_state, state_answer, state_after}
 use Rattle.network.specs.declared.track.Track.{Track}
 use Rattle.network.proofs.Layers.{at_within, at_past, at_front, at_back, after_front, after_back, length_after}
 use Rattle.annex.specs.Annexed.{annexed, annexed_after, add_after, own_answer, own_after}

@@ -49,10 +49,10 @@ impl<N: Network> Annex<N> {
 
     // Adds an open track of its own, or refuses with 4 or 5 and changes nothing.
     pub fn add(&mut self, first: u16, second: u16) -> Result<(), Refusal>
-        ensures value { numbered result ≡ add_answer (tracks self.old.below) self.old.own.items first second }
+        ensures value { numbered result ≡ add_answer (N.tracks self.old.below) self.old.own.items first second }
         ensures below { self.new.below ≡ self.old.below }
-        ensures own { self.new.own.items ≡ add_after (tracks self.old.below) self.old.own.items first second }
-        ensures after { annexed (tracks self.new.below) self.new.own.items ≡ annexed_after (tracks self.old.below) self.old.own.items first second }
+        ensures own { self.new.own.items ≡ add_after (N.tracks self.old.below) self.old.own.items first second }
+        ensures after { annexed (N.tracks self.new.below) self.new.own.items ≡ annexed_after (N.tracks self.old.below) self.old.own.items first second }
     {
         if !are_points(first, second) {
             return Err(Refusal::NoSuchPoint);
@@ -78,8 +78,8 @@ impl<N: Network> Annex<N> {
 
     // The own track with a number above those below, or None where it is not shown.
     fn own_at(&self, track: usize) -> Option<Track>
-        requires { length (tracks self.now.below) ≤ track }
-        ensures { result ≡ track_at (annexed (tracks self.now.below) self.now.own.items) track }
+        requires { length (N.tracks self.now.below) ≤ track }
+        ensures { result ≡ track_at (annexed (N.tracks self.now.below) self.now.own.items) track }
     {
         let below = self.below.count();
         let place = track - below;

@@ -1,11 +1,11 @@
 -- The tracks of a fan, one by one. Assumes nothing.
-use Rattle.std.specs.Prelude.{◌≡◌, ℕ, ◌+◌, ◌-◌, ◌*◌, ◌<◌, ◌≤◌, Bool, true, false, cond, ◌⊎◌, List, [], ◌∷◌, map, length, get_or, replicate, is_ok, Some, None, nat_lt, slice_index_or, slice_set, refl}
-use Rattle.std.proofs.Common.{sym, ap, subst, ◌∙◌, inl, inr, ⊎_elim, arith, zero-add}
+use Rattle.std.specs.Prelude.{◌≡◌, ℕ, ◌-◌, ◌*◌, ◌<◌, ◌≤◌, Bool, false, List, [], ◌∷◌, map, length, get_or, replicate, Some, None, nat_lt, slice_index_or, slice_set, refl}
+use Rattle.std.proofs.Common.{sym, ap, subst, ◌∙◌, ⊎_elim, arith, zero-add}
 use Rattle.std.specs.List.{range_with_len}
 use Rattle.std.proofs.lemmas.List.FromFn.{length-map-range_with_len, get_or-map-range_with_len}
 use Rattle.std.proofs.lemmas.List.{length-set, get_or-set_same, get_or-set_other, get_or-replicate, get_or_past, length-replicate, ext_get_or}
 use Rattle.std.proofs.lemmas.Bool.{cases_lt, cases_eq, ltb-true, ltb-false, cond_both}
-use Rattle.network.specs.Tracks.{no_track, Within, Limits, track_at, answer_of, with_state, put_state, state_after}
+use Rattle.network.specs.Tracks.{no_track, Within, Limits, track_at, with_state, put_state}
 use Rattle.network.specs.declared.track.Track.{Track}
 use Rattle.network.proofs.Layers.{at_within, at_past}
 use Rattle.fan.specs.Roads.{Roads, road_tracks, road_ends, road_track, fanned, open_roads}

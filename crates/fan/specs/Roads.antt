@@ -1,5 +1,5 @@
 -- The tracks of parallel roads whose neighbouring ends are joined. Assumes nothing.
-use Rattle.std.specs.Prelude.{ℕ, ◌+◌, ◌-◌, ◌*◌, ◌≤◌, Bool, false, cond, ◌&&◌, List, map, replicate, is_ok, Ok, Err, Result, nat_le, nat_lt, slice_index_or}
+use Rattle.std.specs.Prelude.{ℕ, ◌+◌, ◌-◌, ◌*◌, ◌≤◌, Bool, false, cond, ◌&&◌, List, map, is_ok, Ok, Err, Result, nat_le, nat_lt, slice_index_or}
 use Rattle.std.specs.List.{range_with_len}
 use Rattle.network.specs.Tracks.{open_track}
 use Rattle.network.specs.declared.track.Track.{Track}

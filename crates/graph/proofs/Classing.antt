@@ -1,11 +1,11 @@
 -- Cut classes: each open track that has a partner is in exactly one. Assumes nothing.
-use Rattle.std.proofs.Common.{◌≡◌, ℕ, ◌<◌, ◌≤◌, Bool, true, false, ◌||◌, eqb, ◌≢◌, ◌⊎◌, List, [], ◌∷◌, length, Decides, sym, refl, ◌∙◌, inl, inr, ⊎_elim, arith}
+use Rattle.std.proofs.Common.{◌≡◌, ℕ, ◌<◌, ◌≤◌, Bool, false, ◌||◌, eqb, ◌≢◌, ◌⊎◌, List, length, Decides, sym, refl, ◌∙◌, inl, inr, ⊎_elim, arith}
 use Rattle.std.proofs.lemmas.Bool.{true≢false, cases_Bool, cases_eq}
 use Rattle.std.proofs.lemmas.Bool.Decides.{Decides-or, Decides-eqb}
 use Rattle.network.specs.declared.track.Track.{Track}
 use Rattle.graph.specs.Counts.{Count}
 use Rattle.graph.specs.Yards.{Open, CutPair}
-use Rattle.graph.specs.Classes.{In, CutClass, Fellow, Lowest, InClass, InNoClass}
+use Rattle.graph.specs.Classes.{In, CutClass, Fellow, InClass, InNoClass}
 use Rattle.graph.proofs.Counting.{count_same, count_like, count_two, counted_other}
 use Rattle.graph.proofs.Fronts.{open_within}
 use Rattle.graph.proofs.Cuts.{pair_sym, pair_trans}

@@ -1,5 +1,5 @@
 -- The group of a touched point has one lowest point. Assumes nothing.
-use Rattle.std.proofs.Common.{◌≡◌, ℕ, zero, suc, ◌<◌, Bool, true, false, not, ◌&&◌, ◌||◌, eqb, ◌≢◌, ◌⊎◌, List, [], ◌∷◌, Decides, refl, inl, inr, ⊎_elim, arith}
+use Rattle.std.proofs.Common.{◌≡◌, ℕ, zero, suc, ◌<◌, Bool, false, not, ◌&&◌, ◌||◌, eqb, ◌≢◌, ◌⊎◌, List, [], ◌∷◌, Decides, refl, inl, inr, ⊎_elim, arith}
 use Rattle.std.proofs.lemmas.Bool.{true≢false, cases_Bool, cases_lt, cases_eq}
 use Rattle.std.proofs.lemmas.Bool.Decides.{Decides-and, Decides-or, Decides-eqb, Decides-like, not_from_Decides}
 use Rattle.network.specs.declared.track.Track.{Track}
@@ -8,7 +8,7 @@ use Rattle.graph.specs.Groups.{Touched, LeadsGroup}
 use Rattle.graph.proofs.Joins.{trans, turn}
 use Rattle.graph.proofs.Decide.{joined_or}
 use Rattle.graph.proofs.Tests.{decides_open}
-use Rattle.graph.proofs.Counting.{Least, least}
+use Rattle.graph.proofs.Counting.{least}
 
 -- the track x is open and touches p
 abbrev pub touches? : Track → ℕ → Bool

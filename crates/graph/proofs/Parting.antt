@@ -1,13 +1,13 @@
 -- Two tracks part the yard where an open one of them has its ends parted; and a cut pair by the ends of one. Assumes nothing.
-use Rattle.std.proofs.Common.{◌≡◌, ℕ, zero, suc, Bool, true, false, not, ◌&&◌, ◌||◌, eqb, ◌≢◌, ◌⊎◌, ◌↔◌, List, [], ◌∷◌, length, take, Decides, sym, refl, ◌∙◌, inl, inr, ⊎_elim, arith, take_all}
+use Rattle.std.proofs.Common.{◌≡◌, ℕ, zero, suc, Bool, true, not, ◌&&◌, ◌||◌, ◌≢◌, ◌⊎◌, ◌↔◌, List, [], ◌∷◌, length, take, Decides, sym, ◌∙◌, inl, inr, ⊎_elim, arith, take_all}
 use Rattle.std.proofs.lemmas.Bool.{true≢false, cases_Bool, cases_eq}
-use Rattle.std.proofs.lemmas.Bool.Decides.{nat_tests, Decides-and, Decides-or, Decides-not, Decides-like}
+use Rattle.std.proofs.lemmas.Bool.Decides.{nat_tests, Decides-and, Decides-or, Decides-like}
 use Rattle.network.specs.declared.track.Track.{Track}
-use Rattle.graph.specs.Yards.{Link, Joined, here, Ends, Open, track, only, shut_also, Parts, Around, Bridge, CutPair}
+use Rattle.graph.specs.Yards.{Joined, here, Ends, Open, track, only, shut_also, Parts, Around, Bridge, CutPair}
 use Rattle.graph.specs.Forests.{InForest}
 use Rattle.graph.proofs.Joins.{link, more, turn, across}
-use Rattle.graph.proofs.Subyards.{only_link, only_more, exchange}
-use Rattle.graph.proofs.Decide.{joined_or, decides_joined, from_nothing}
+use Rattle.graph.proofs.Subyards.{only_link, exchange}
+use Rattle.graph.proofs.Decide.{joined_or, from_nothing}
 use Rattle.graph.proofs.Fronts.{take_more}
 use Rattle.graph.proofs.Cuts.{but, bridge_not_around, not_around_bridge, pair_not_around, not_around_parts}
 use Rattle.graph.proofs.Tests.{open?, around?, decides_open, decides_not_around}

@@ -1,11 +1,11 @@
 -- Two tracks part the yard together exactly if one is a bridge or they are a cut pair. Assumes nothing.
-use Rattle.std.proofs.Common.{◌≡◌, ℕ, Bool, true, false, ◌≢◌, ◌⊎◌, List, [], ◌∷◌, sym, ◌∙◌, subst, inl, inr, ⊎_elim, arith}
+use Rattle.std.proofs.Common.{◌≡◌, ℕ, true, ◌≢◌, ◌⊎◌, List, [], ◌∷◌, sym, ◌∙◌, subst, inl, inr, ⊎_elim, arith}
 use Rattle.std.proofs.lemmas.Bool.{cases_Bool, cases_eq, true≢false}
 use Rattle.std.proofs.lemmas.Bool.Decides.{nat_tests}
 use Rattle.network.specs.declared.track.Track.{Track}
 use Rattle.graph.specs.Yards.{track, Open, Parts, Around, Bridge, CutPair}
 use Rattle.graph.proofs.Cuts.{but, bridge_not_around, not_around_bridge, not_around_parts, parts_swap, pair_sym}
-use Rattle.graph.proofs.Parting.{PartsAt, parts_at, at_parts}
+use Rattle.graph.proofs.Parting.{parts_at, at_parts}
 use Rattle.graph.proofs.Subyards.{only_more, only_more_open}
 use Rattle.graph.proofs.Tests.{bridge_or}
 

@@ -1,5 +1,5 @@
 -- A line is read as a fault if and only if it has that fault. Assumes nothing.
-use Rattle.std.proofs.Common.{◌≡◌, ℕ, ◌+◌, ◌<◌, true, ◌⊎◌, List, [], ◌∷◌, ◌++◌, Some, None, Ok, Err, codes, Option, Result, sym, refl, ap, ◌∙◌, subst, inl, inr, arith}
+use Rattle.std.proofs.Common.{◌≡◌, ℕ, ◌<◌, true, ◌⊎◌, List, [], ◌∷◌, ◌++◌, Some, None, Ok, Err, codes, Option, Result, sym, refl, ap, ◌∙◌, subst, inl, inr, arith}
 use Rattle.std.specs.Str.{bytes_eq}
 use Rattle.std.proofs.lemmas.Slice.Eq.{bytes_eq-Decides}
 use Rattle.std.proofs.lemmas.Bool.{cases_lt}
@@ -10,7 +10,7 @@ use Rattle.layout.specs.declared.line.Place.{Place}
 use Rattle.layout.specs.declared.line.Place.TheVariants.{Start, Within}
 use Rattle.layout.specs.Faults.{fault_number}
 use Rattle.layout.specs.Layout.{fields, numbers_of}
-use Rattle.layout.specs.Lines.{Content, comment, problem, edge, line_of, parted, problem_line, problem_at, problem_of, edge_points, edge_among, edge_line, edge_of}
+use Rattle.layout.specs.Lines.{Content, line_of, parted, problem_line, problem_at, problem_of, edge_points, edge_among, edge_line, edge_of}
 use Rattle.layout.specs.Grammar.{gap, Begins, ProblemLine, EdgeLine}
 use Rattle.layout.specs.FileFaults.{NamesEdge, Known, Fault}
 use Rattle.layout.specs.FileFaults as faults

@@ -5,7 +5,7 @@ use Rattle.std.proofs.lemmas.Bool.{cases_lt, cases_Bool, eqb-true, cond-true, co
 use Rattle.std.proofs.lemmas.Bool.Decides.{nat_tests}
 use Rattle.layout.specs.declared.faults.NumberFault.{NumberFault}
 use Rattle.layout.specs.declared.faults.NumberFault.TheVariants.{Wrong}
-use Rattle.layout.specs.Layout.{split, fields, decimal, digits_after, digit_of, with_digit}
+use Rattle.layout.specs.Layout.{fields, decimal, digits_after, digit_of, with_digit}
 use Rattle.layout.specs.Lines.{parted}
 use Rattle.layout.specs.Grammar.{gap}
 use Rattle.layout.proofs.Splits.{to, blanks, fields_step, fields_space, word_step, drop_to}

@@ -22,7 +22,7 @@ fn is_parted(rest: &[u8]) -> bool
 fn is_edge(word: &[u8]) -> bool
     ensures { result ≡ bytes_eq word.now (codes "edge") }
 {
-    word == b"edge"
+    word == b"edge".as_slice()
 }
 
 // What follows the letter p.

@@ -3,7 +3,7 @@ ghost use Rattle.std.specs.Prelude.{◌≡◌, [], IfOk};
 ghost use Rattle.network.specs.Refusals.{numbered};
 ghost use Rattle.network.specs.Tracks.{with_state};
 ghost use Rattle.table.specs.Laying.{table_tracks, lay_answer, lay_after};
-ghost use Rattle.std.proofs.Common.{rules, arith};
+ghost use Rattle.table.specs.Held.{limits_table};
 
 use crate::Table;
 use network::track::{Refusal, Track};
@@ -58,7 +58,7 @@ fn set_shut(one: &mut Track, shut: bool)
 impl Network for Table {
     ghost tracks = { table_tracks };
 
-    ghost limits = { first_of (Prim.search rules, Prim.grind (arith, Self.row.coded.inj)) };
+    ghost limits = { limits_table };
 
     fn count(&self) -> usize {
         self.records.len()

@@ -1,5 +1,5 @@
 -- What a network means whose points are stood for by others. Assumes nothing.
-use Rattle.std.specs.Prelude.{ℕ, ◌<◌, cond, List, map, length, is_ok, Ok, Err, Result, slice_index, slice_set}
+use Rattle.std.specs.Prelude.{ℕ, ◌<◌, cond, List, map, is_ok, Ok, Err, Result, slice_index, slice_set}
 use Rattle.network.specs.Tracks.{are_points}
 use Rattle.network.specs.declared.track.Track.{Track}
 

@@ -1,14 +1,13 @@
 -- A network whose points are stood for by others, by the tracks below. Assumes nothing.
-use Rattle.std.specs.Prelude.{◌≡◌, ℕ, ◌+◌, ◌<◌, ◌≤◌, Bool, not, ◌⊎◌, List, [], ◌∷◌, map, length, get_or, Some, None, Option, MatchOption, slice_index, slice_index_or, slice_set, refl}
-use Rattle.std.proofs.Common.{sym, ap, subst, ◌∙◌, inl, inr, ⊎_elim, arith, zero-add}
-use Rattle.std.specs.List.{range_with_len}
+use Rattle.std.specs.Prelude.{◌≡◌, ℕ, ◌<◌, Bool, List, length, get_or, Some, None, Option, slice_index, slice_index_or, slice_set, refl}
+use Rattle.std.proofs.Common.{sym, ap, subst, ◌∙◌, ⊎_elim, arith, zero-add}
 use Rattle.std.specs.Option.{option_map}
-use Rattle.std.proofs.lemmas.List.FromFn.{get_or-range_with_len, length-range_with_len}
-use Rattle.std.proofs.lemmas.List.{length-map, get_or-map, get_or-set_same, get_or-set_other, set_past, same_lists, ext_get_or}
+use Rattle.std.proofs.lemmas.List.FromFn.{get_or-range_with_len}
+use Rattle.std.proofs.lemmas.List.{length-map, get_or-map, get_or-set_same, get_or-set_other, set_past, ext_get_or}
 use Rattle.std.proofs.lemmas.Bool.{cases_lt, cases_eq}
-use Rattle.network.specs.Tracks.{no_track, each_point, Within, Points, Limits, track_at, ends_of, ends_at, open_of, open_at, with_state, state_answer, state_after}
+use Rattle.network.specs.Tracks.{no_track, each_point, Within, Points, Limits, track_at, ends_of, ends_at, open_of, open_at, state_answer, state_after}
 use Rattle.network.specs.declared.track.Track.{Track}
-use Rattle.network.proofs.Layers.{at_within, at_past, at_map, answer_map, after_map}
+use Rattle.network.proofs.Layers.{at_map, answer_map, after_map}
 use Rattle.tied.specs.Standing.{stand_in, Standing, retied, tied}
 
 pub standing_set : (stands : List ℕ) (point by : ℕ) → Standing stands → by < 512 → Standing (slice_set stands point by)

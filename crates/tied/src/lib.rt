@@ -24,7 +24,7 @@ impl<N: Network> Tied<N> {
     pub fn new(below: N) -> Tied<N>
         ensures below { result.below ≡ below }
         ensures stands { result.stands ≡ each_point }
-        ensures same { tied result.stands (tracks result.below) ≡ tracks below }
+        ensures same { tied result.stands (N.tracks result.below) ≡ N.tracks below }
     {
         let stands = each_point();
         Tied { below, stands }

@@ -1,9 +1,9 @@
 -- What representatives tell: whether points are joined, and what the tracks that are shut as well part. Assumes nothing.
-use Rattle.std.proofs.Common.{◌≡◌, ℕ, ◌<◌, ◌≤◌, Bool, true, false, not, ◌&&◌, ◌||◌, eqb, ◌≢◌, ◌⊎◌, List, [], ◌∷◌, length, get_or, Decides, sym, refl, ap, ◌∙◌, subst, inl, inr, ⊎_elim, arith}
+use Rattle.std.proofs.Common.{◌≡◌, ℕ, ◌<◌, ◌≤◌, true, false, ◌||◌, eqb, ◌≢◌, ◌⊎◌, List, [], ◌∷◌, length, get_or, Decides, sym, refl, subst, inl, inr, ⊎_elim, arith}
 use Rattle.std.proofs.lemmas.Bool.Decides.{nat_tests, Decides-and, Decides-or, Decides-not, Decides-eqb, Decides-like}
 use Rattle.network.specs.Tracks.{Within, Points, are_points}
 use Rattle.network.specs.declared.track.Track.{Track}
-use Rattle.graph.specs.Yards.{Joined, here, along, Link, Ends, Open, track, shut_also, Parts, Around, Bridge}
+use Rattle.graph.specs.Yards.{Joined, here, along, Link, Ends, Open, track, shut_also, Parts, Bridge}
 use Rattle.graph.specs.Classes.{Fellow}
 use Rattle.graph.specs.Representing.{Represents}
 use Rattle.graph.proofs.Fronts.{open_within}

@@ -1,13 +1,13 @@
 -- Counting the representatives of marked points, and marking the points that open tracks touch. Assumes nothing.
-use Rattle.std.proofs.Common.{◌≡◌, ℕ, suc, ◌+◌, ◌<◌, ◌≤◌, Bool, true, false, not, ◌&&◌, ◌≢◌, ◌⊎◌, List, length, get_or, set, Decides, sym, refl, ap, ◌∙◌, subst, inl, inr, ⊎_elim, add-one, arith}
+use Rattle.std.proofs.Common.{◌≡◌, ℕ, ◌+◌, ◌<◌, ◌≤◌, Bool, true, false, not, ◌&&◌, ◌≢◌, ◌⊎◌, List, length, get_or, set, Decides, sym, ap, ◌∙◌, subst, inl, inr, ⊎_elim, arith}
 use Rattle.std.proofs.lemmas.List.{get_or-set_same, get_or-set_other, length-set}
 use Rattle.std.proofs.lemmas.Bool.{true≢false, cases_Bool, cases_eq, and_parts}
-use Rattle.std.proofs.lemmas.Bool.Decides.{nat_tests, Decides-at, Decides-like, not_from_Decides}
+use Rattle.std.proofs.lemmas.Bool.Decides.{nat_tests, Decides-at, Decides-like}
 use Rattle.network.specs.declared.track.Track.{Track}
-use Rattle.graph.specs.Counts.{Count, one, other}
+use Rattle.graph.specs.Counts.{Count}
 use Rattle.graph.specs.Groups.{Touched, LeadsGroup}
 use Rattle.graph.specs.Representing.{Represents}
-use Rattle.graph.specs.Yards.{Joined, Open, track}
+use Rattle.graph.specs.Yards.{Open, track}
 use Rattle.graph.proofs.Counting.{count_like}
 use Rattle.graph.proofs.Fronts.{open_within}
 use Rattle.yard.specs.Partitions.{FirstOf}

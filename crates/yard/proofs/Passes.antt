@@ -1,5 +1,5 @@
 -- A pass over the tracks of a yard: the representatives at its start, from track to track, and at its end. Assumes nothing.
-use Rattle.std.proofs.Common.{◌≡◌, ℕ, suc, ◌+◌, ◌<◌, ◌≤◌, Bool, true, false, not, ◌&&◌, ◌≢◌, List, [], length, get_or, take, set, Decides, sym, ap, ◌∙◌, subst, ⊎_elim, zero-add, add-one, arith, take_all, below_more}
+use Rattle.std.proofs.Common.{◌≡◌, ℕ, ◌+◌, ◌<◌, ◌≤◌, Bool, true, false, not, ◌&&◌, ◌≢◌, List, [], length, get_or, take, set, Decides, sym, ap, ◌∙◌, subst, ⊎_elim, zero-add, add-one, arith, take_all, below_more}
 use Rattle.std.proofs.lemmas.List.FromFn.{get_or-range_with_len}
 use Rattle.std.proofs.lemmas.List.{get_or-set_same, get_or-set_other}
 use Rattle.std.proofs.lemmas.Bool.Decides.{Decides-at, Decides-and, Decides-not, Decides-like, not_from_Decides}
@@ -8,7 +8,7 @@ use Rattle.network.specs.declared.track.Track.{Track}
 use Rattle.graph.specs.Counts.{Count}
 use Rattle.graph.proofs.Counting.{one_more, none_more}
 use Rattle.graph.specs.Yards.{track, Open}
-use Rattle.graph.specs.Forests.{InForest, Closes, Chord}
+use Rattle.graph.specs.Forests.{InForest, Chord}
 use Rattle.graph.specs.Representing.{Represents}
 use Rattle.graph.proofs.Decide.{joined_or}
 use Rattle.graph.proofs.Tests.{decides_open}

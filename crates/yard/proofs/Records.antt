@@ -1,5 +1,5 @@
 -- The records of a yard, as they are read and with some shut. Assumes nothing.
-use Rattle.std.proofs.Common.{◌≡◌, ℕ, ◌<◌, Bool, true, false, cond, not, List, [], ◌∷◌, length, get_or, sym, refl, ap, ◌∙◌, subst}
+use Rattle.std.proofs.Common.{◌≡◌, ℕ, ◌<◌, true, false, cond, not, List, length, get_or, ap, ◌∙◌, subst}
 use Rattle.network.specs.Tracks.{no_track, Within, Points}
 use Rattle.network.specs.declared.track.Track.{Track}
 use Rattle.graph.specs.Yards.{track, closed, among, shut_also}

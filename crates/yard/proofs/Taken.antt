@@ -1,12 +1,11 @@
 -- Taking in a track that is shut, that closes a cycle, or that joins what was apart. Assumes nothing.
-use Rattle.std.proofs.Common.{◌≡◌, ℕ, suc, ◌<◌, ◌≤◌, Bool, true, false, cond, eqb, ◌≢◌, ◌⊎◌, List, length, get_or, take, sym, refl, ap, ◌∙◌, subst, ⊎_elim, arith}
+use Rattle.std.proofs.Common.{◌≡◌, ℕ, ◌<◌, true, false, cond, eqb, ◌≢◌, List, length, get_or, sym, refl, ap, ◌∙◌, subst, ⊎_elim, arith}
 use Rattle.std.proofs.lemmas.Bool.{true≢false, cases_lt}
 use Rattle.std.proofs.lemmas.Bool.Decides.{nat_tests}
 use Rattle.std.proofs.lemmas.List.{get_or_past}
 use Rattle.network.specs.Tracks.{Within}
 use Rattle.network.specs.declared.track.Track.{Track}
-use Rattle.graph.specs.Yards.{track, Joined}
-use Rattle.graph.specs.Representing.{Represents}
+use Rattle.graph.specs.Yards.{track}
 use Rattle.graph.proofs.Represented.{represents_shut, represents_open}
 use Rattle.yard.specs.Partitions.{Below, TakenIn}
 

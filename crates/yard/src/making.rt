@@ -10,7 +10,7 @@ use std::alloc::{AllocError, Global};
 impl Yard {
     // The tracks of a network, as they are now.
     pub fn of<N: Network>(heap: Global, network: &N) -> Result<Yard, AllocError>
-        ensures { IfOk result (λ y. yard_tracks y ≡ tracks network.now) }
+        ensures { IfOk result (λ y. yard_tracks y ≡ N.tracks network.now) }
     {
         let count = network.count();
         let mut records = Vec::with_capacity(heap, count)?;

@@ -1,4 +1,3 @@
-use Rattle.std.proofs.Common.{length, arith, take_all}
 use Rattle.graph.proofs.Acyclic.{acyclic}
 use Rattle.graph.proofs.Leaves.{leaf}
 use Rattle.graph.proofs.Parting.{spans}

@@ -19,29 +19,29 @@ loop-line-preserved c =
     let plan = plan_of c.args.bytes.now in
     let ts = table_tracks c.loop-line.table in
     let was = c.loop-line.reader in
-    let next = c.next-line.new.self in
+    let next = c.next_line.new.self in
     let s = content c.in-Some.line in
-    let r = c.in-ok-line.was ∙ ap Ok c.in-Some.is in
-    let read = sym (ap next_content r) ∙ c.next-line.ensures.value in
+    let r = c.in_ok-line.was ∙ ap Ok c.in-Some.is in
+    let read = sym (ap next_content r) ∙ c.next_line.ensures.value in
     let laid = line_laid plan ts (lines (unread was)) was.place was.number s was.sound c.loop-line.invariant read in
-    going_on plan ts (table_tracks c.lay-line.new.table) (lines (unread was)) (lines (unread next)) was.place next.place was.number next.number s
-    c.loop-line.invariant read (c.lay-line.ensures ∙ laid) (ap lines c.next-line.ensures.unread ∙ lines_rest (unread was))
-    (c.next-line.ensures.place ∙ ap (λ x. place_after was.place (next_content x)) r) c.next-line.ensures.number
+    going_on plan ts (table_tracks c.lay_line.new.table) (lines (unread was)) (lines (unread next)) was.place next.place was.number next.number s
+    c.loop-line.invariant read (c.lay_line.ensures ∙ laid) (ap lines c.next_line.ensures.unread ∙ lines_rest (unread was))
+    (c.next_line.ensures.place ∙ ap (λ x. place_after was.place (next_content x)) r) c.next_line.ensures.number
 
 pub loop-line-smaller : goal.loop-line-smaller
 loop-line-smaller c =
     let was = c.loop-line.reader in
-    let r = c.in-ok-line.was ∙ ap Ok c.in-Some.is in
-    fewer_left (unread was) (unread c.next-line.new.self) was.place was.number (content c.in-Some.line)
-    (sym (ap next_content r) ∙ c.next-line.ensures.value) c.next-line.ensures.unread
+    let r = c.in_ok-line.was ∙ ap Ok c.in-Some.is in
+    fewer_left (unread was) (unread c.next_line.new.self) was.place was.number (content c.in-Some.line)
+    (sym (ap next_content r) ∙ c.next_line.ensures.value) c.next_line.ensures.unread
 
-pub returns-in-err-line : goal.returns-in-err-line
-returns-in-err-line c =
+pub returns-in_err-line : goal.returns-in_err-line
+returns-in_err-line c =
     let was = c.loop-line.reader in
-    let fault = c.in-err-line.field-0.0 in
-    let read = sym (ap next_content c.in-err-line.was) ∙ c.next-line.ensures.value in
+    let fault = c.in_err-line.field-0.0 in
+    let read = sym (ap next_content c.in_err-line.was) ∙ c.next_line.ensures.value in
     let whole = c.loop-line.invariant.0 ∙ ap (onto (table_tracks c.loop-line.table)) (walk_fault (lines (unread was)) was.place was.number fault read) in
-    let p = err_from_is_err_and c.from-residual.result c.from-residual.ensures.1 in
+    let p = err_from_is_err_and c.from_residual.result c.from_residual.ensures.1 in
     let r = p.1 ∙ ap Err p.2 in
     record { value = r ∙ sym (ap answer_to whole); tracks = λ k. let z = sym k ∙ ap is_ok r in cc }
 
@@ -49,8 +49,8 @@ pub returns : goal.returns
 returns c =
     let ts = table_tracks c.loop-line.table in
     let was = c.loop-line.reader in
-    let r = c.in-ok-line.was ∙ ap Ok c.in-default.is in
-    let read = sym (ap next_content r) ∙ c.next-line.ensures.value in
+    let r = c.in_ok-line.was ∙ ap Ok c.in_default.is in
+    let read = sym (ap next_content r) ∙ c.next_line.ensures.value in
     let whole = c.loop-line.invariant.0 ∙ ap (onto ts) (walk_end (lines (unread was)) was.place was.number read) ∙ ap (λ us. Ok (points_of was.place, us)) (append-nil ts) in
-    let same = c.next-line.ensures.place ∙ ap (λ x. place_after was.place (next_content x)) r in
+    let same = c.next_line.ensures.place ∙ ap (λ x. place_after was.place (next_content x)) r in
     record { value = ap Ok (c.points.ensures ∙ ap points_of same) ∙ sym (ap answer_to whole); tracks = λ _. sym (ap planned whole) }

@@ -7,6 +7,6 @@ use Rattle.plan.proofs.read_plan.Goals as goal
 
 pub returns : goal.returns
 returns c =
-    let v : c.lay-plan-answer.result ≡ answer_to (plan_of c.args.bytes.now) = search rules in
-    let t : table_tracks c.clear-refused.new.laid ≡ planned (plan_of c.args.bytes.now) = search rules in
-    record { value = v; tracks = t; law = answered c.args.bytes.now c.lay-plan-answer.result (table_tracks c.clear-refused.new.laid) v t }
+    let v : c.lay_plan-answer.result ≡ answer_to (plan_of c.args.bytes.now) = search rules in
+    let t : table_tracks c.clear_refused.new.laid ≡ planned (plan_of c.args.bytes.now) = search rules in
+    record { value = v; tracks = t; law = answered c.args.bytes.now c.lay_plan-answer.result (table_tracks c.clear_refused.new.laid) v t }

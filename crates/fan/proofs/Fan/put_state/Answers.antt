@@ -1,7 +1,6 @@
-use Rattle.std.proofs.Common.{◌≡◌, ◌<◌, arith}
+use Rattle.std.proofs.Common.{arith}
 use Rattle.network.proofs.Layers.{at_some}
 use Rattle.fan.specs.Fanned.{fan_tracks}
-use Rattle.fan.specs.Roads.{road_tracks}
 use Rattle.fan.specs.Fans.{length_fanned, put_fanned}
 use Rattle.fan.proofs.Fan.put_state.Goals as goal
 

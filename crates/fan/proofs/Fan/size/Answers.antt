@@ -1,4 +1,4 @@
-use Rattle.std.proofs.Common.{◌≡◌, cond, is_ok, Ok, sym, ap, ◌∙◌, rules}
+use Rattle.std.proofs.Common.{◌≡◌, cond, is_ok, Ok, ap, ◌∙◌, rules}
 use Rattle.fan.specs.Roads.{size_answer, open_roads}
 use Rattle.fan.specs.Fanned.{fan_tracks}
 use Rattle.fan.specs.Fans.{fanned_open}

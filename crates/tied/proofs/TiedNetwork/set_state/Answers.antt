@@ -5,6 +5,6 @@ use Rattle.tied.proofs.TiedNetwork.set_state.Goals as goal
 
 pub returns : goal.returns
 returns g c = record {
-  value = c.set-state.ensures.value ∙ answer_tied _ _ c.args.shut c.args.track;
-  after = ap (tied c.args.self.now.stands) c.set-state.ensures.after ∙ after_tied _ _ c.args.shut c.args.track;
+  value = c.set_state.ensures.value ∙ answer_tied _ _ c.args.shut c.args.track;
+  after = ap (tied c.args.self.now.stands) c.set_state.ensures.after ∙ after_tied _ _ c.args.shut c.args.track;
 }

@@ -9,4 +9,4 @@ returns c =
     let y = yard_tracks c.args.self.now in
     let low : c.args.t < length y = omega arith in
     let also : c.args.u < length y = omega arith in
-    (low, also, Decides-at _ _ c.any-split.ensures (decides_parts_split y c.args.self.now.points _ c.args.t c.args.u low also c.partition-without-points.ensures))
+    (low, also, Decides-at _ _ c.any_split.ensures (decides_parts_split y c.args.self.now.points _ c.args.t c.args.u low also c.partition_without-points.ensures))

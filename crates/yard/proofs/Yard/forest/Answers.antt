@@ -1,4 +1,4 @@
-use Rattle.std.proofs.Common.{◌≡◌, ℕ, ◌<◌, ◌≤◌, length, sym, refl, ap, ◌∙◌, arith}
+use Rattle.std.proofs.Common.{◌≡◌, ℕ, ◌<◌, length, sym, arith}
 use Rattle.std.proofs.lemmas.Bool.{cond-true, eq-eqb}
 use Rattle.yard.specs.Meaning.{yard_tracks}
 use Rattle.yard.proofs.Passes.{pass_start, pass_more, told_more}
@@ -14,7 +14,7 @@ loop-number-preserved c =
     let low : k < length y = omega arith in
     let room : k < length c.loop-number.flags = omega arith in
     let at = c.record-one.ensures.value in
-    (pass_more y _ _ _ _ k c.take-in.ensures low at c.loop-number.invariant.0, told_more y _ _ _ _ k c.take-in.ensures low at c.loop-number.invariant.0 c.loop-number.flags room c.loop-number.invariant.1)
+    (pass_more y _ _ _ _ k c.take_in.ensures low at c.loop-number.invariant.0, told_more y _ _ _ _ k c.take_in.ensures low at c.loop-number.invariant.0 c.loop-number.flags room c.loop-number.invariant.1)
 
 pub returns : goal.returns
 returns c =

@@ -1,4 +1,4 @@
-use Rattle.std.proofs.Common.{◌≡◌, ℕ, ◌<◌, false, length, get_or, take, Decides}
+use Rattle.std.proofs.Common.{ℕ, ◌<◌, false, get_or, take, Decides}
 use Rattle.graph.specs.Forests.{InForest}
 use Rattle.graph.specs.Representing.{Represents}
 use Rattle.yard.specs.Meaning.{yard_tracks}

@@ -8,4 +8,4 @@ pub returns : goal.returns
 returns c =
     let y = yard_tracks c.args.self.now in
     let low : c.args.number < length y = omega arith in
-    (low, Decides-at _ _ c.is-split.ensures (decides_bridge_split y c.args.self.now.points _ c.args.number low c.partition-without-points.ensures))
+    (low, Decides-at _ _ c.is_split.ensures (decides_bridge_split y c.args.self.now.points _ c.args.number low c.partition_without-points.ensures))

@@ -8,5 +8,5 @@ pub returns : goal.returns
 returns c =
     let y = yard_tracks c.args.self.now in
     let is_open : c.record.result.shut ≡ false = c.if-record.false in
-    Decides-at _ _ c.is-split.ensures
-    (decides_fellow y c.args.self.now.points _ c.args.number c.args.other c.requires.there (λ e. c.if-other-number.false (sym e)) c.requires.open (sym (ap (λ x. x.shut) c.record.ensures.value) ∙ is_open) c.requires.kept c.partition-without-points.ensures)
+    Decides-at _ _ c.is_split.ensures
+    (decides_fellow y c.args.self.now.points _ c.args.number c.args.other c.requires.there (λ e. c.if-other-number.false (sym e)) c.requires.open (sym (ap (λ x. x.shut) c.record.ensures.value) ∙ is_open) c.requires.kept c.partition_without-points.ensures)

@@ -1,4 +1,4 @@
-use Rattle.std.proofs.Common.{◌≡◌, ◌<◌, ◌≤◌, [], ◌∷◌, length, sym, ◌∙◌, arith}
+use Rattle.std.proofs.Common.{◌<◌, ◌≤◌, [], ◌∷◌, length, arith}
 use Rattle.graph.specs.Yards.{shut_also}
 use Rattle.yard.specs.Meaning.{yard_tracks}
 use Rattle.yard.proofs.Records.{length_shut_also}
@@ -13,7 +13,7 @@ loop-number-preserved c =
     let z = shut_also (yard_tracks c.args.self.now) (c.args.t ∷ c.args.u ∷ []) in
     let long = length_shut_also (yard_tracks c.args.self.now) (c.args.t ∷ c.args.u ∷ []) in
     let low : c.loop-number.number < length z = omega arith in
-    pass_more z _ _ _ _ c.loop-number.number c.take-in.ensures low c.record-without-one.ensures.value c.loop-number.invariant
+    pass_more z _ _ _ _ c.loop-number.number c.take_in.ensures low c.record_without-one.ensures.value c.loop-number.invariant
 
 pub returns : goal.returns
 returns c =

@@ -1,10 +1,10 @@
-use Rattle.std.proofs.Common.{◌≡◌, ◌<◌, ◌≤◌, length, sym, ap, ◌∙◌, subst, arith}
+use Rattle.std.proofs.Common.{◌≡◌, ◌<◌, length, sym, subst, arith}
 use Rattle.graph.specs.Counts.{Count, start}
 use Rattle.graph.specs.Forests.{Chord}
 use Rattle.yard.specs.Meaning.{yard_tracks}
 use Rattle.yard.proofs.Passes.{pass_start, pass_more, chord_more, other_more}
 use Rattle.yard.proofs.Yard.words_needed.Goals as goal
-use Rattle.yard.proofs.Yard.words_needed.Goals.{then-is-chord, else-is-chord}
+use Rattle.yard.proofs.Yard.words_needed.Goals.{then-is_chord, else-is_chord}
 
 pub loop-number-init : goal.loop-number-init
 loop-number-init c = (omega arith, pass_start c.new-points.result.reps c.new-points.ensures, start)
@@ -15,12 +15,12 @@ loop-number-preserved c =
     let k = c.loop-number.number in
     let low : k < length y = omega arith in
     let at = c.record-one.ensures.value in
-    let taken = c.take-in-joins.ensures in
+    let taken = c.take_in-joins.ensures in
     let before = c.loop-number.invariant.0 in
     let next = pass_more y _ _ _ _ k taken low at c.loop-number.invariant.1 in
-    elim c.if-is-chord.branch [
-      | then-is-chord w ↦ (omega (arith, w.words-is), next, subst (Count (Chord y) _) (sym w.words-is) (chord_more y _ _ _ _ k taken low at c.loop-number.invariant.1 c.loop-number.words (sym w.if-is-chord.ensures) c.loop-number.invariant.2))
-      | else-is-chord w ↦ (omega (arith, w.words-is), next, subst (Count (Chord y) _) (sym w.words-is) (other_more y _ _ _ _ k taken low at c.loop-number.invariant.1 c.loop-number.words (sym w.if-is-chord.ensures) c.loop-number.invariant.2))
+    elim c.if-is_chord.branch [
+      | then-is_chord w ↦ (omega (arith, w.words-is), next, subst (Count (Chord y) _) (sym w.words-is) (chord_more y _ _ _ _ k taken low at c.loop-number.invariant.1 c.loop-number.words (sym w.if-is_chord.ensures) c.loop-number.invariant.2))
+      | else-is_chord w ↦ (omega (arith, w.words-is), next, subst (Count (Chord y) _) (sym w.words-is) (other_more y _ _ _ _ k taken low at c.loop-number.invariant.1 c.loop-number.words (sym w.if-is_chord.ensures) c.loop-number.invariant.2))
     ]
 
 pub returns : goal.returns

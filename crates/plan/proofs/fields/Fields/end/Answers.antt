@@ -4,7 +4,7 @@ use Rattle.std.proofs.lemmas.Bool.{eqb-false}
 use Rattle.layout.proofs.Numbers.{more_left}
 use Rattle.plan.proofs.fields.Fields.end.Goals as goal
 
-pub returns-then-not-is-empty : goal.returns-then-not-is-empty
-returns-then-not-is-empty c =
-    let ne = eqb-false (length c.args.self.now.rest.now) 0 (sym c.if-not-is-empty.ensures) in
+pub returns-then-not-is_empty : goal.returns-then-not-is_empty
+returns-then-not-is_empty c =
+    let ne = eqb-false (length c.args.self.now.rest.now) 0 (sym c.if-not-is_empty.ensures) in
     more_left c.args.self.now.rest.now (omega arith)

@@ -10,7 +10,7 @@ pub returns : goal.returns
 returns c =
     let l = c.args.self.now.rest.now in
     let n = c.until-end.result in
-    let ne = eqb-false (length l) 0 (sym c.if-is-empty.ensures) in
+    let ne = eqb-false (length l) 0 (sym c.if-is_empty.ensures) in
     let text : List ℕ = take (length l - c.spaces-blanks.result) (drop c.spaces-blanks.result l) in
     let e : text ≡ drop (blanks l) l = take_rest l c.spaces-blanks.result ∙ ap (λ k. drop k l) c.spaces-blanks.ensures.value in
     let p = field_read l text n (omega arith) e c.until-end.ensures.value in

@@ -1,4 +1,4 @@
-use Rattle.std.proofs.Common.{◌≡◌, ℕ, suc, ◌+◌, ◌<◌, ◌≤◌, Bool, true, false, List, length, replicate, sym, refl, ap, ◌∙◌, subst, arith}
+use Rattle.std.proofs.Common.{◌≡◌, ℕ, ◌+◌, false, length, sym, ap, ◌∙◌, subst, arith}
 use lib.ListN.{length-replicate}
 use Rattle.std.proofs.lemmas.List.{get_or-replicate, length-set}
 use Rattle.std.proofs.lemmas.Bool.{true≢false}
@@ -7,7 +7,7 @@ use Rattle.graph.proofs.Counting.{one_more, none_more}
 use Rattle.yard.specs.Partitions.{FirstOf}
 use Rattle.yard.proofs.Marked.{Seen, first_here, not_first, seen_first, seen_other}
 use Rattle.yard.proofs.partition.Partition.count_marked.Goals as goal
-use Rattle.yard.proofs.partition.Partition.count_marked.Goals.{then-is-first, else-is-first}
+use Rattle.yard.proofs.partition.Partition.count_marked.Goals.{then-is_first, else-is_first}
 
 pub loop-point-init : goal.loop-point-init
 loop-point-init c = (
@@ -26,16 +26,16 @@ loop-point-preserved c =
     let held = c.loop-point.invariant.2 in
     let less = c.loop-point.invariant.0 in
     let counted : (n : ℕ) → Type 0 = λ n. Count (FirstOf reps marked) (k + 1) n in
-    elim c.if-is-first.branch [
-      | then-is-first w ↦
-          let e = sym w.if-is-first.ensures in (
+    elim c.if-is_first.branch [
+      | then-is_first w ↦
+          let e = sym w.if-is_first.ensures in (
             omega (arith, w.count-is),
             ap length w.seen-is ∙ length-set _ _ _ ∙ c.loop-point.invariant.1,
             subst (λ seen. Seen reps marked seen (k + 1)) (sym w.seen-is) (seen_first reps marked c.loop-point.seen k low held c.loop-point.invariant.1 e),
             subst counted (sym w.count-is) (one_more (FirstOf reps marked) k c.loop-point.count c.loop-point.invariant.3 (first_here reps marked c.loop-point.seen k low held e)),
           )
-      | else-is-first w ↦
-          let e = sym w.if-is-first.ensures in (
+      | else-is_first w ↦
+          let e = sym w.if-is_first.ensures in (
             omega (arith, w.count-is),
             ap length w.seen-is ∙ c.loop-point.invariant.1,
             subst (λ seen. Seen reps marked seen (k + 1)) (sym w.seen-is) (seen_other reps marked c.loop-point.seen k low held e),
