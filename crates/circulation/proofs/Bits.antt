@@ -1,10 +1,9 @@
 -- The bits of words: one bit of a word, as a map from labels of kind X to any of them. Assumes nothing.
-use Rattle.std.proofs.Common.{◌≡◌, ℕ, zero, suc, ◌+◌, ◌*◌, ◌/◌, ◌%◌, ◌^◌, ◌<◌, ◌≤◌, Bool, true, false, cond, ◌&&◌, eqb, ◌≢◌, ◌⊎◌, sym, refl, ap, ◌∙◌, subst, ap₂, inl, inr, ⊎_elim, mod-lt, arith}
+use Rattle.std.proofs.Common.{◌≡◌, ℕ, zero, suc, ◌+◌, ◌*◌, ◌/◌, ◌%◌, ◌^◌, ◌<◌, Bool, true, cond, ◌&&◌, eqb, ◌≢◌, ◌⊎◌, sym, refl, ap, ◌∙◌, ap₂, inl, inr, ⊎_elim, mod-lt, arith}
 use native.Mathlib.Nat.{zero-div}
-use lib.Bits.{bit_xor, xor_shr, xor_mod, xor_self, xor_zero_l, xor_zero_r}
-use Rattle.std.proofs.lemmas.Bool.{cases_Bool, cases_eq, cases_lt, and_parts, eq-eqb, ne_eqb, eqb-true, eqb-false}
+use lib.Bits.{bit_xor, xor_shr, xor_mod}
+use Rattle.std.proofs.lemmas.Bool.{cases_eq, cases_lt, and_parts, eq-eqb, ne_eqb, eqb-true}
 use Rattle.label.specs.declared.xor.Xor.{Xor}
-use Rattle.label.specs.Groups.{Group}
 use Rattle.label.specs.Kinds.{word_label, xors}
 use Rattle.circulation.specs.Units.{unit_word}
 

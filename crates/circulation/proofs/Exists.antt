@@ -2,15 +2,14 @@
 use Rattle.std.proofs.Common.{◌≡◌, ℕ, zero, suc, ◌<◌, ◌≤◌, ◌≢◌, ◌⊎◌, List, length, take, sym, refl, ap, ◌∙◌, subst, ap₂, inl, inr, ⊎_elim, arith}
 use Rattle.std.proofs.lemmas.Bool.{true≢false, cases_eq, cases_Bool}
 use Rattle.network.specs.declared.track.Track.{Track}
-use Rattle.graph.specs.Yards.{Joined, here, Ends, Open, track, only}
+use Rattle.graph.specs.Yards.{Open, track, only}
 use Rattle.label.specs.Groups.{Group}
-use Rattle.graph.specs.Counts.{Count, start, one, other}
 use Rattle.graph.specs.Forests.{InForest, Chord}
 use Rattle.circulation.specs.Labellings.{Labelling}
-use Rattle.graph.proofs.Joins.{link, more, turn}
-use Rattle.graph.proofs.Decide.{joined_or, from_nothing}
-use Rattle.graph.proofs.Subyards.{open_only, only_link}
-use Rattle.graph.proofs.Fronts.{open_within, take_more}
+use Rattle.graph.proofs.Joins.{turn}
+use Rattle.graph.proofs.Decide.{joined_or}
+use Rattle.graph.proofs.Subyards.{open_only}
+use Rattle.graph.proofs.Fronts.{open_within}
 use Rattle.graph.proofs.Tests.{in_forest?, decides_forest}
 use Rattle.graph.proofs.Counting.{count_same}
 use Rattle.graph.proofs.Parting.{spans_front}

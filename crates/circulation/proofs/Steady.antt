@@ -3,7 +3,7 @@ use Rattle.std.proofs.Common.{◌≡◌, ℕ, suc, Bool, true, false, cond, not,
 use Rattle.network.specs.declared.track.Track.{Track}
 use Rattle.graph.specs.Yards.{track}
 use Rattle.label.specs.Groups.{Group}
-use Rattle.circulation.specs.Labels.{label, total, leaves_from, enters_at, Balanced}
+use Rattle.circulation.specs.Labels.{label, total, Balanced}
 
 module _ {K : Type 0} (G : Group K) where
   cond_open : (s p : Bool) (k : K) → (s ≡ true → k ≡ G.zero) → cond (not s && p) k G.zero ≡ cond p k G.zero

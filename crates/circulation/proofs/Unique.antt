@@ -1,16 +1,16 @@
 -- Steady labels that agree outside the forest are equal. Assumes nothing.
-use Rattle.std.proofs.Common.{◌≡◌, ℕ, zero, suc, Bool, true, false, cond, not, ◌&&◌, eqb, List, [], ◌∷◌, length, take, Decides, sym, refl, ap, ◌∙◌, ap₂, ⊎_elim, arith}
-use Rattle.std.proofs.lemmas.Bool.Decides.{Decides-and, Decides-not, not_from_Decides}
-use Rattle.std.proofs.lemmas.Bool.{cases_Bool, true≢false, not-true, not_from_false}
+use Rattle.std.proofs.Common.{◌≡◌, ℕ, zero, suc, Bool, true, false, cond, eqb, List, [], ◌∷◌, length, take, sym, refl, ap, ◌∙◌, ap₂, ⊎_elim, arith}
+use Rattle.std.proofs.lemmas.Bool.Decides.{not_from_Decides}
+use Rattle.std.proofs.lemmas.Bool.{cases_Bool, true≢false}
 use Rattle.network.specs.declared.track.Track.{Track}
-use Rattle.graph.specs.Yards.{Open, track, only, closed}
+use Rattle.graph.specs.Yards.{track, only, closed}
 use Rattle.label.specs.Groups.{Group}
 use Rattle.circulation.proofs.Steady.{Steady, steady}
 use Rattle.circulation.specs.Labels.{label, total}
 use Rattle.graph.specs.Counts.{Count, start, one, other}
-use Rattle.graph.specs.Forests.{InForest, Chord}
+use Rattle.graph.specs.Forests.{Chord}
 use Rattle.circulation.specs.Labellings.{Labelling}
-use Rattle.graph.proofs.Decide.{joined?, decides_joined, joined_or}
+use Rattle.graph.proofs.Decide.{joined_or}
 use Rattle.graph.proofs.Subyards.{track_kept, length_only}
 use Rattle.graph.proofs.Tests.{in_forest?, decides_forest}
 use Rattle.circulation.proofs.Totals.{medial, cancel}

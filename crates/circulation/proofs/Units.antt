@@ -1,23 +1,22 @@
 -- The labellings of words of one bit tell every two tracks apart that any labels do. Assumes nothing.
-use Rattle.std.proofs.Common.{◌≡◌, ℕ, zero, suc, ◌*◌, ◌/◌, ◌%◌, ◌<◌, ◌≤◌, Bool, true, false, cond, ◌≢◌, ◌⊎◌, List, [], ◌∷◌, length, sym, refl, ap, ◌∙◌, subst, ap₂, inl, inr, ⊎_elim, arith}
+use Rattle.std.proofs.Common.{◌≡◌, ℕ, zero, suc, ◌*◌, ◌/◌, ◌%◌, ◌<◌, ◌≤◌, Bool, true, false, cond, ◌≢◌, ◌⊎◌, List, [], ◌∷◌, length, sym, refl, ap, ◌∙◌, ap₂, inl, inr, ⊎_elim, arith}
 use Rattle.std.proofs.lemmas.Bool.{cases_eq, cases_lt}
 use Rattle.network.specs.declared.track.Track.{Track}
-use Rattle.graph.specs.Counts.{Count}
 use Rattle.graph.specs.Forests.{Chord, WordsNeeded}
 use Rattle.graph.specs.Yards.{Open, track, Bridge, CutPair}
-use Rattle.graph.proofs.Counting.{count_same, count_before}
+use Rattle.graph.proofs.Counting.{count_before}
 use Rattle.graph.proofs.Fronts.{open_within}
 use Rattle.graph.proofs.Tests.{bridge_or, pair_or}
 use Rattle.label.specs.declared.xor.Xor.{Xor}
 use Rattle.label.specs.Groups.{Group}
 use Rattle.label.specs.Kinds.{word_label, xors}
-use Rattle.circulation.specs.Labels.{label, total, Balanced}
+use Rattle.circulation.specs.Labels.{label, total}
 use Rattle.circulation.specs.Units.{units}
 use Rattle.circulation.proofs.Bits.{picked, picked_zero, picked_sum, own_bit, other_bit}
 use Rattle.circulation.proofs.Steady.{Steady, steady}
-use Rattle.circulation.proofs.Unique.{chords, same_labels, forest_decides}
+use Rattle.circulation.proofs.Unique.{chords, forest_decides}
 use Rattle.circulation.proofs.Exists.{chord_or, labelled, labelling_exists}
-use Rattle.circulation.proofs.Flows.{listed, length_listed, label_listed, amount, amount_zero, amount_sum}
+use Rattle.circulation.proofs.Flows.{listed, label_listed, amount, amount_zero, amount_sum}
 use Rattle.circulation.proofs.Rounds.{Even, even_balanced, told_bridge, told_apart}
 
 -- labels as a list are their labels by number

@@ -9,17 +9,17 @@ use label::Label;
 
 // What balanced labels carry: zero on bridges, equal or opposite labels on cut pairs.
 pub fn balance_laws<K: Label>()
-    ensures { BalanceLaws group }
+    ensures { BalanceLaws K.group }
 {}
 
 // Other tracks can be told by labels.
 pub fn telling_laws<K: Label>()
-    ensures { TellingLaws group }
+    ensures { TellingLaws K.group }
 {}
 
 // The draws determine one labelling.
 pub fn labelling_laws<K: Label>()
-    ensures { LabellingLaws group }
+    ensures { LabellingLaws K.group }
 {}
 
 // Words of one bit each tell all tracks.

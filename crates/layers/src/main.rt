@@ -19,7 +19,7 @@ use std::io;
 use table::Table;
 use tied::Tied;
 
-#[derive(Drop)]
+#[derive(Debug, Drop)]
 enum Fault {
     Memory,
     Answered(Refusal),
@@ -58,7 +58,7 @@ impl From<io::Error> for Fault {
 
 // How many tracks of any network are open.
 fn open_count<N: Network>(network: &N) -> usize
-    ensures { result ≡ open_count (tracks network.now) }
+    ensures { result ≡ open_count (N.tracks network.now) }
 {
     let mut open = 0;
     for track in 0..network.count() {
@@ -79,7 +79,7 @@ fn shut_in_pile(pile: &mut Annex<Tied<Table>>, track: usize) -> Result<(), Refus
 
 // The same over any network below.
 fn shut_above<N: Network>(pile: &mut Annex<Tied<N>>, track: usize) -> Result<(), Refusal>
-    ensures { numbered result ≡ state_answer true (annexed (tied pile.old.below.stands (tracks pile.old.below.below)) pile.old.own.items) track }
+    ensures { numbered result ≡ state_answer true (annexed (tied pile.old.below.stands (N.tracks pile.old.below.below)) pile.old.own.items) track }
 {
     pile.shut(track)
 }

@@ -1,5 +1,5 @@
 -- One more track of those whose lines are written. Assumes nothing.
-use Rattle.std.proofs.Common.{◌≡◌, ℕ, ◌+◌, ◌<◌, ◌≤◌, Bool, true, false, cond, List, [], ◌++◌, length, drop, sym, refl, ap, ◌∙◌, arith}
+use Rattle.std.proofs.Common.{◌≡◌, ℕ, ◌+◌, ◌<◌, ◌≤◌, Bool, cond, List, ◌++◌, length, drop, sym, ap, ◌∙◌}
 use Rattle.std.proofs.lemmas.List.{at_drop_more, append_assoc, append-nil, drop_all}
 use Rattle.network.specs.Tracks.{no_track, track_at}
 use Rattle.network.specs.declared.track.Track.{Track}

@@ -1,5 +1,5 @@
 -- The text of what was read is the text of the reading. Assumes nothing.
-use Rattle.std.proofs.Common.{◌≡◌, ℕ, ◌≤◌, List, length, Ok, Err, ap, ◌∙◌, subst, arith}
+use Rattle.std.proofs.Common.{◌≡◌, ℕ, ◌≤◌, List, length, Ok, Err, subst, arith}
 use Rattle.network.specs.declared.track.Track.{Track}
 use Rattle.layout.specs.Plans.{Reading, plan_of, answer_to, planned}
 use Rattle.listing.specs.Rows.{TableText}

@@ -50,8 +50,8 @@ fn push_row<N: Network>(
     number: usize,
     text: &mut String,
 ) -> Result<bool, AllocError>
-    ensures text { OnOk result (string_bytes text.new ≡ string_bytes text.old ++ row_of number (track_at (tracks network.now) number)) }
-    ensures value { IfOk result (λ b. b ≡ loop_of (track_at (tracks network.now) number)) }
+    ensures text { OnOk result (string_bytes text.new ≡ string_bytes text.old ++ row_of number (track_at (N.tracks network.now) number)) }
+    ensures value { IfOk result (λ b. b ≡ loop_of (track_at (N.tracks network.now) number)) }
 {
     let Some(track) = track_at(network, number) else {
         return Ok(false);
@@ -88,8 +88,8 @@ fn summary_text(
 
 // The header and the lines of the tracks, and how many of them are loops.
 fn rows_text<N: Network>(heap: Global, network: &N) -> Result<(String, usize), AllocError>
-    ensures text { IfOk result (λ p. string_bytes p.0 ≡ header ++ rows 0 (tracks network.now)) }
-    ensures loops { IfOk result (λ p. p.1 ≡ loop_count (tracks network.now)) }
+    ensures text { IfOk result (λ p. string_bytes p.0 ≡ header ++ rows 0 (N.tracks network.now)) }
+    ensures loops { IfOk result (λ p. p.1 ≡ loop_count (N.tracks network.now)) }
 {
     let mut text = String::from_str(heap, "track,first,second,state\r\n")?;
     let mut loops = 0;
@@ -103,7 +103,7 @@ fn rows_text<N: Network>(heap: Global, network: &N) -> Result<(String, usize), A
 
 // The track table of a network that was read from a plan with so many points: CSV, and a line that counts.
 pub fn table_text<N: Network>(heap: Global, network: &N, points: u16) -> Result<String, AllocError>
-    ensures { IfOk result (λ s. TableText points (tracks network.now) (string_bytes s)) }
+    ensures { IfOk result (λ s. TableText points (N.tracks network.now) (string_bytes s)) }
 {
     let (mut text, loops) = rows_text(heap, network)?;
     let yard = Yard::of(heap, network)?;

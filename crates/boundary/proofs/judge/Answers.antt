@@ -11,11 +11,11 @@ returns-then-given-gt2048 c =
 pub returns-then-not-are-points : goal.returns-then-not-are-points
 returns-then-not-are-points c =
     let gs = c.args.given.now in
-    let beyond = beyond_at gs c.loop-one.one_Index c.loop-one-test.true c.if-not-are-points.ensures in
+    let beyond = beyond_at gs c.loop-one.one-index c.loop-one-test.true c.if-not-are-points.ensures in
     subst (Judged (tracks_of gs)) (sym c.number-then-not-are-points.ensures.value) (judged_beyond (tracks_of gs) (omega (arith, as_many gs)) beyond)
 
 pub loop-one-preserved : goal.loop-one-preserved
-loop-one-preserved c = let gs = c.args.given.now in below_more _ _ c.loop-one.invariant (within_at gs c.loop-one.one_Index c.loop-one-test.true c.if-not-are-points.ensures)
+loop-one-preserved c = let gs = c.args.given.now in below_more _ _ c.loop-one.invariant (within_at gs c.loop-one.one-index c.loop-one-test.true c.if-not-are-points.ensures)
 
 pub returns : goal.returns
 returns c =

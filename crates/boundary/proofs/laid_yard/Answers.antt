@@ -9,7 +9,7 @@ use Rattle.boundary.proofs.laid_yard.Goals as goal
 pub put-requires : goal.put-requires
 put-requires c =
     let gs = c.args.given.now in
-    let k = c.loop-one.one_Index in
+    let k = c.loop-one.one-index in
     let long = as_many gs in
     let few = c.requires.few in
     let room = ap length c.loop-one.invariant ∙ length-take k (tracks_of gs) in
@@ -19,7 +19,7 @@ put-requires c =
 pub loop-one-preserved : goal.loop-one-preserved
 loop-one-preserved c =
     let gs = c.args.given.now in
-    let k = c.loop-one.one_Index in
+    let k = c.loop-one.one-index in
     let long = as_many gs in
     let within : k < length (tracks_of gs) = omega arith in
     c.put.ensures
@@ -31,5 +31,5 @@ pub returns : goal.returns
 returns c =
     let gs = c.args.given.now in
     let long = as_many gs in
-    let past : length (tracks_of gs) ≤ c.loop-one.one_Index = omega arith in
-    subst (λ l. IfOk c.of.result (λ y. yard_tracks y ≡ l)) (c.loop-one.invariant ∙ take_all c.loop-one.one_Index (tracks_of gs) past) c.of.ensures
+    let past : length (tracks_of gs) ≤ c.loop-one.one-index = omega arith in
+    subst (λ l. IfOk c.of.result (λ y. yard_tracks y ≡ l)) (c.loop-one.invariant ∙ take_all c.loop-one.one-index (tracks_of gs) past) c.of.ensures

@@ -5,8 +5,8 @@ use Rattle.yard.specs.Meaning.{yard_tracks}
 use Rattle.yard_c.proofs.Sums.{timed_more}
 use Rattle.yard_c.proofs.sum_groups.Goals as goal
 
-pub overflow-add-sum : goal.overflow-add-sum
-overflow-add-sum c = let more = count_le c.group_count.ensures in let had = c.loop-turn.invariant.1 in omega arith
+pub overflow_add-sum : goal.overflow_add-sum
+overflow_add-sum c = let more = count_le c.group_count.ensures in let had = c.loop-turn.invariant.1 in omega arith
 
 pub loop-turn-preserved : goal.loop-turn-preserved
 loop-turn-preserved c =

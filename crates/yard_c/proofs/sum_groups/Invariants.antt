@@ -6,4 +6,4 @@ use Rattle.yard_c.proofs.sum_groups.Given as goal
 
 -- the sum is that of the turns so far, and has room
 abbrev pub invariant-loop-turn : goal.invariant-loop-turn
-invariant-loop-turn l = Timed GroupCount (yard_tracks l.yard) l.-turn l.sum × (l.sum ≤ 512 * l.-turn)
+invariant-loop-turn l = Timed GroupCount (yard_tracks l.yard) l._turn l.sum × (l.sum ≤ 512 * l._turn)

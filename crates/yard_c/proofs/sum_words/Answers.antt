@@ -5,13 +5,13 @@ use Rattle.yard.specs.Meaning.{yard_tracks}
 use Rattle.yard_c.proofs.Sums.{timed_more}
 use Rattle.yard_c.proofs.sum_words.Goals as goal
 
-pub overflow-add-sum : goal.overflow-add-sum
-overflow-add-sum c = let more = count_le c.words-needed.ensures in let few = c.args.yard.now.few in let had = c.loop-turn.invariant.1 in omega arith
+pub overflow_add-sum : goal.overflow_add-sum
+overflow_add-sum c = let more = count_le c.words_needed.ensures in let few = c.args.yard.now.few in let had = c.loop-turn.invariant.1 in omega arith
 
 pub loop-turn-preserved : goal.loop-turn-preserved
 loop-turn-preserved c =
     let y = yard_tracks c.args.yard.now in
-    let more = count_le c.words-needed.ensures in
+    let more = count_le c.words_needed.ensures in
     let few = c.args.yard.now.few in
     let had = c.loop-turn.invariant.1 in
-    (timed_more WordsNeeded y (λ m n a b. count_same a b) _ _ _ c.loop-turn.invariant.0 c.words-needed.ensures, omega arith)
+    (timed_more WordsNeeded y (λ m n a b. count_same a b) _ _ _ c.loop-turn.invariant.0 c.words_needed.ensures, omega arith)

@@ -15,8 +15,8 @@ returns-then-flags-given c =
       left = λ _. refl;
     }
 
-pub mark-forest-requires : goal.mark-forest-requires
-mark-forest-requires c = c.if-flags-given.false ∙ sym (ap length c.in-Ok.ensures ∙ as_many c.args.given.now)
+pub mark_forest-requires : goal.mark_forest-requires
+mark_forest-requires c = c.if-flags-given.false ∙ sym (ap length c.in-Ok.ensures ∙ as_many c.args.given.now)
 
 pub returns-in-Ok : goal.returns-in-Ok
 returns-in-Ok c =
@@ -26,7 +26,7 @@ returns-in-Ok c =
       judged = λ _ _. judged_sound (tracks_of gs) limits;
       short = λ e. absurd (omega arith);
       unlike = λ e. absurd (omega arith);
-      marked = λ _. (c.if-flags-given.false ∙ sym (as_many gs), subst (λ ts. Marked ts c.args.times c.args.flags.now c.mark-forest.new.flags) c.in-Ok.ensures c.mark-forest.ensures);
+      marked = λ _. (c.if-flags-given.false ∙ sym (as_many gs), subst (λ ts. Marked ts c.args.times c.args.flags.now c.mark_forest.new.flags) c.in-Ok.ensures c.mark_forest.ensures);
       left = λ e. absurd (e refl);
     }
 
