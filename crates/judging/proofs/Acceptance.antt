@@ -1,16 +1,16 @@
 -- Labels that balance are accepted exactly where their leads are right. Assumes nothing.
-use Rattle.std.proofs.Common.{◌≡◌, ℕ, ◌<◌, ◌≤◌, Bool, true, false, ◌≢◌, ◌⊎◌, List, length, sym, refl, ap, ◌∙◌, subst, inl, inr, ⊎_elim, arith}
+use Rattle.std.proofs.Common.{◌≡◌, ℕ, ◌<◌, ◌≤◌, ◌≢◌, ◌⊎◌, List, length, sym, ap, ◌∙◌, subst, inl, inr, ⊎_elim, arith}
 use Rattle.std.proofs.lemmas.Bool.{cases_Bool, cases_eq, cases_lt, true≢false}
 use Rattle.network.specs.declared.track.Track.{Track}
 use Rattle.graph.specs.Yards.{track, Open, Bridge, CutPair}
 use Rattle.graph.proofs.Cuts.{pair_sym, pair_trans}
 use Rattle.label.specs.Groups.{Group}
 use Rattle.circulation.specs.Labels.{label, Balanced}
-use Rattle.circulation.proofs.Carried.{zero_on_bridge, alike_on_pair}
+use Rattle.circulation.proofs.Carried.{zero_on_bridge}
 use Rattle.circulation.proofs.Steady.{steady}
-use Rattle.circulation.proofs.Totals.{unit_right, opposite_from}
+use Rattle.circulation.proofs.Totals.{opposite_from}
 use Rattle.judging.specs.Accepting.{Alike, Accepted}
-use Rattle.judging.specs.Leads.{LedBy, lead, Leads, Led, Confirmed}
+use Rattle.judging.specs.Leads.{lead, Leads, Led, Confirmed}
 
 module _ {K : Type 0} (G : Group K) where
   opposite_twice : (a : K) → G.opposite (G.opposite a) ≡ a

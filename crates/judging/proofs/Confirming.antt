@@ -1,14 +1,12 @@
 -- Leads that agree with every round are right, and right leads agree with every round. Assumes nothing.
-use Rattle.std.proofs.Common.{◌≡◌, ℕ, ◌*◌, ◌<◌, ◌≤◌, Bool, true, false, ◌≢◌, List, length, Ok, Err, Decides, Result, sym, refl, ap, ◌∙◌, subst, inl, inr, ⊎_elim, arith}
+use Rattle.std.proofs.Common.{◌≡◌, ℕ, ◌*◌, ◌<◌, ◌≤◌, Bool, List, length, Ok, Err, Decides, Result, sym, ap, subst, inl, inr, ⊎_elim, arith}
 use Rattle.std.proofs.lemmas.Bool.{cases_eq}
 use Rattle.std.proofs.lemmas.Bool.Decides.{Decides-like}
 use Rattle.network.specs.declared.track.Track.{Track}
 use Rattle.graph.specs.Forests.{WordsNeeded}
-use Rattle.graph.specs.Yards.{track, Open, Bridge, CutPair}
 use Rattle.label.specs.declared.xor.Xor.{Xor}
 use Rattle.label.specs.Kinds.{xors}
 use Rattle.circulation.specs.Labels.{label}
-use Rattle.circulation.specs.Labellings.{Labelling}
 use Rattle.circulation.specs.Units.{units}
 use Rattle.circulation.proofs.Carried.{zero_on_bridge, alike_on_pair}
 use Rattle.circulation.proofs.Exists.{labelled, labelling_exists}

@@ -1,11 +1,11 @@
 -- The marks that accepted labels give are those of the yard. Assumes nothing.
-use Rattle.std.proofs.Common.{◌≡◌, ℕ, zero, suc, ◌<◌, ◌≤◌, Bool, true, false, cond, eqb, ltb, ◌≢◌, ◌⊎◌, List, length, get_or, take, sym, refl, ap, ◌∙◌, subst, inl, inr, ⊎_elim, arith, length-take}
-use Rattle.std.proofs.lemmas.List.{get_or-take, get_or_past, length-take-le}
+use Rattle.std.proofs.Common.{◌≡◌, ℕ, zero, suc, ◌<◌, ◌≤◌, true, false, cond, ltb, ◌≢◌, ◌⊎◌, List, length, take, sym, ap, ◌∙◌, subst, inl, inr, ⊎_elim, arith}
+use Rattle.std.proofs.lemmas.List.{get_or-take, get_or_past}
 use Rattle.std.proofs.lemmas.Bool.{cases_Bool, cases_eq, cases_lt, false≢true, cond-true, cond-false, ne_eqb, lt-ltb, le-ltb}
 use Rattle.network.specs.declared.track.Track.{Track}
 use Rattle.graph.specs.Classes.{Fellow}
 use Rattle.graph.specs.Counts.{Count, start, one, other}
-use Rattle.graph.specs.Yards.{track, Open, Bridge, CutPair}
+use Rattle.graph.specs.Yards.{track, Open}
 use Rattle.graph.proofs.Classing.{found_class, found_none}
 use Rattle.graph.proofs.Counting.{count_like}
 use Rattle.graph.proofs.Fronts.{open_within}
@@ -14,11 +14,11 @@ use Rattle.circulation.specs.Labels.{label, Balanced}
 use Rattle.circulation.proofs.Carried.{alike_on_pair}
 use Rattle.circulation.proofs.Steady.{steady}
 use Rattle.sheet.specs.declared.mark.Mark.{Mark}
-use Rattle.sheet.specs.declared.mark.Mark.TheVariants.{Shut, Single, Mates, Alone}
+use Rattle.sheet.specs.declared.mark.Mark.TheVariants.{Shut, Mates, Alone}
 use Rattle.sheet.specs.Marks.{MarkOf, mark_at, MarksOf, is_mates, lead_in, size_in, LedWell, WellLed}
-use Rattle.judging.specs.Accepting.{Alike, Accepted}
+use Rattle.judging.specs.Accepting.{Accepted}
 use Rattle.judging.specs.Leads.{lead, Leads, Confirmed}
-use Rattle.judging.specs.Marking.{mark_by, MarkedAt, Marked}
+use Rattle.judging.specs.Marking.{mark_by, Marked}
 use Rattle.judging.proofs.Acceptance.{lead_other, carries_open, carries_no_bridge, one_lead, led_alike, confirmed_accepted}
 
 -- each number of tracks has a count of a property that is decided

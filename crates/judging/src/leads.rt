@@ -9,8 +9,8 @@ pub(crate) const TRACKS: usize = 2048;
 
 // Whether two labels are equal or opposite; the opposite of the second is given.
 fn are_alike<K: Label>(a: &K, b: &K, opposite: &K) -> bool
-    requires { opposite.now ≡ group.opposite b.now }
-    ensures { Decides result (Alike group a.now b.now) }
+    requires { opposite.now ≡ K.group.opposite b.now }
+    ensures { Decides result (Alike K.group a.now b.now) }
 {
     a.same(b) || a.same(opposite)
 }
@@ -18,7 +18,7 @@ fn are_alike<K: Label>(a: &K, b: &K, opposite: &K) -> bool
 // The lowest track with a label equal or opposite to that of a track.
 fn lead_of<K: Label>(labels: &[K], number: usize) -> usize
     requires { number < length labels.now }
-    ensures { LedBy group labels.now number result }
+    ensures { LedBy K.group labels.now number result }
 {
     let opposite = labels[number].opposite();
     for other in 0..number {
@@ -33,7 +33,7 @@ fn lead_of<K: Label>(labels: &[K], number: usize) -> usize
 pub(crate) fn leads_of<K: Label>(labels: &[K]) -> [u16; TRACKS]
     requires { length labels.now ≤ 2048 }
     ensures long { length result ≡ 2048 }
-    ensures leads { Leads group labels.now result (length labels.now) }
+    ensures leads { Leads K.group labels.now result (length labels.now) }
 {
     let zero = K::zero();
     let mut leads = [2048; TRACKS];

@@ -1,6 +1,6 @@
 -- Answers by marks are answers by the yard that the marks are of. Assumes nothing.
-use Rattle.std.proofs.Common.{◌≡◌, ℕ, ◌<◌, ◌≤◌, Bool, true, false, cond, not, ◌&&◌, ◌||◌, eqb, ltb, ◌≢◌, ◌⊎◌, List, [], ◌∷◌, length, Ok, Err, Decides, Result, sym, refl, ap, ◌∙◌, subst, inl, inr, ⊎_elim, arith}
-use Rattle.std.proofs.lemmas.Bool.{cases_Bool, cases_lt, and_from, cond-true, lt-ltb, ltb-true, true≢false, false≢true}
+use Rattle.std.proofs.Common.{◌≡◌, ℕ, ◌<◌, Bool, true, false, cond, not, ◌&&◌, eqb, ltb, List, [], ◌∷◌, length, Ok, Err, Decides, sym, refl, ap, ◌∙◌, subst, ⊎_elim, arith}
+use Rattle.std.proofs.lemmas.Bool.{cases_Bool, cond-true, lt-ltb, ltb-true, false≢true}
 use Rattle.std.proofs.lemmas.Bool.Decides.{Decides-and, Decides-or, Decides-not, Decides-eqb, Decides-like}
 use Rattle.network.specs.declared.track.Track.{Track}
 use Rattle.graph.specs.Classes.{LeadsClass}
@@ -11,7 +11,7 @@ use Rattle.graph.proofs.Twos.{parts_are, are_parts}
 use Rattle.sheet.specs.declared.mark.Mark.{Mark}
 use Rattle.sheet.specs.declared.mark.Mark.TheVariants.{Shut, Single, Mates, Alone}
 use Rattle.sheet.specs.declared.total.Totals.{Totals}
-use Rattle.sheet.specs.Asked.{mark_answer, is_single, parting_by, parting_answer, PartingTold, LeadMark, MateMarks, TotalsOf, TotalsTold}
+use Rattle.sheet.specs.Asked.{mark_answer, is_single, parting_by, TotalsOf, TotalsTold}
 use Rattle.sheet.specs.Marks.{mark_at, MarksOf, is_mates, lead_in}
 use Rattle.sheet.proofs.Marks.{single_bridge, bridge_single, lead_class, class_lead, together_pair, pair_together}
 

@@ -20,7 +20,11 @@ fn few_tracks(rt: HostRuntime) -> Result<(), Fail> {
     check_marks(&rt, &sheet, &[Mark::Single])?;
     let ring = yard_of(rt.alloc(), &[(0, 0)])?;
     assert_eq!(rt; judged::<Xor>(rt.alloc(), &ring, &[0], &mut sheet)?, 10);
-    check_marks(&rt, &sheet, &[Mark::Single]).note("a refusal leaves the sheet")?;
+    assert!(rt;
+        sheet.mark(0)? == Mark::Single,
+        "a refusal leaves the sheet"
+    );
+    check_marks(&rt, &sheet, &[Mark::Single])?;
     assert_eq!(rt; judged::<Xor>(rt.alloc(), &ring, &[1], &mut sheet)?, 0);
     check_marks(&rt, &sheet, &[Mark::Alone])
 }

@@ -11,8 +11,8 @@ loop-number-preserved c =
     c.loop-number-test.true
     c.if-number-marks.true
     c.loop-number.invariant
-    c.put-line-next.ensures.put
-    c.put-line-next.ensures.short
+    c.put_line-next.ensures.put
+    c.put_line-next.ensures.short
 
 pub returns-else-number-marks : goal.returns-else-number-marks
 returns-else-number-marks c =

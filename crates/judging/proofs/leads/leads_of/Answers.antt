@@ -1,4 +1,4 @@
-use Rattle.std.proofs.Common.{◌≡◌, ℕ, ◌+◌, ◌<◌, ◌≢◌, List, length, sym, refl, ap, ◌∙◌, subst, arith, length-set}
+use Rattle.std.proofs.Common.{◌≡◌, ℕ, ◌+◌, ◌<◌, ◌≢◌, List, length, sym, refl, ◌∙◌, subst, arith, length-set}
 use Rattle.std.proofs.lemmas.List.{get_or_read}
 use Rattle.std.proofs.lemmas.Bool.Decides.{not_from_Decides}
 use Rattle.circulation.specs.Labels.{label}
@@ -25,7 +25,7 @@ loop-number-preserved g c =
           subst Good (sym w.leads-is) (
             length-set leads n _ ∙ c.loop-number.invariant.0,
             free_more G ks leads n c.loop-number.invariant.2 _ room c.loop-number.invariant.0 c.loop-number.invariant.1,
-            lead_more G ks leads n c.loop-number.invariant.2 _ room c.loop-number.invariant.0 other w.lead-of.ensures,
+            lead_more G ks leads n c.loop-number.invariant.2 _ room c.loop-number.invariant.0 other w.lead_of.ensures,
           )
       | else-not-same w ↦
           let same : label G ks n ≡ G.zero = sym at ∙ c.same.ensures.0 w.if-not-same.false ∙ c.zero-zero.ensures in

@@ -1,4 +1,4 @@
-use Rattle.std.proofs.Common.{◌≡◌, ℕ, ◌+◌, ◌<◌, ◌≤◌, List, length, get_or, sym, refl, ◌∙◌, subst, arith, length-set, rules}
+use Rattle.std.proofs.Common.{◌≡◌, ℕ, ◌+◌, List, length, get_or, sym, refl, ◌∙◌, subst, arith, length-set, rules}
 use Rattle.std.proofs.lemmas.List.{get_or_default, get_or-replicate}
 use Rattle.graph.specs.Counts.{Count, start}
 use Rattle.judging.specs.Leads.{lead}
@@ -10,8 +10,8 @@ use Rattle.judging.proofs.marks.sizes_of.Goals.{then-lead-lt-TRACKS, else-lead-l
 pub loop-number-init : goal.loop-number-init
 loop-number-init c = (refl, λ l h. subst (Count (λ t. lead c.args.leads.now t ≡ l) 0) (sym (get_or-replicate 2048 l 0 0 h)) start)
 
-pub overflow-add-sizes : goal.overflow-add-sizes
-overflow-add-sizes c =
+pub overflow_add-sizes : goal.overflow_add-sizes
+overflow_add-sizes c =
     let le = size_le c.args.leads.now c.loop-number.sizes c.loop-number.number c.loop-number.invariant.1 (get_or c.args.leads.now c.loop-number.number 0) c.if-lead-lt-TRACKS.true in
     let few = c.requires.few in search rules
 

@@ -1,4 +1,4 @@
-use Rattle.std.proofs.Common.{◌+◌, sym, subst, arith}
+use Rattle.std.proofs.Common.{◌+◌, sym, subst}
 use Rattle.judging.proofs.Rounded.{Wording, wording_none, wording_own, wording_other, shifted_one}
 use Rattle.judging.proofs.rounds.unit_words.Goals as goal
 use Rattle.judging.proofs.rounds.unit_words.Goals.{then-number-round, else-number-round}

@@ -1,6 +1,6 @@
-use Rattle.std.proofs.Common.{◌≡◌, ℕ, ◌<◌, ◌≤◌, true, cond, ◌≢◌, List, length, take, sym, refl, ap, ◌∙◌, subst, inl, inr, ⊎_elim, arith}
+use Rattle.std.proofs.Common.{◌≡◌, ℕ, ◌≤◌, true, List, length, take, sym, refl, ap, ◌∙◌, subst, inr, arith}
 use Rattle.std.proofs.lemmas.List.{length-take-le}
-use Rattle.std.proofs.lemmas.Bool.{cond-true, cases_eq}
+use Rattle.std.proofs.lemmas.Bool.{cond-true}
 use Rattle.std.proofs.lemmas.Bool.Decides.{not_from_Decides}
 use Rattle.network.specs.declared.track.Track.{Track}
 use Rattle.circulation.specs.Labels.{Balanced}
@@ -13,10 +13,10 @@ use Rattle.judging.proofs.Acceptance.{are_led, lead_most, confirmed_accepted, ac
 use Rattle.judging.proofs.Sheeted.{marks_right, marks_led, first_marked}
 use Rattle.judging.proofs.verdict.judge.Given as given
 use Rattle.judging.proofs.verdict.judge.Goals as goal
-use Rattle.judging.proofs.verdict.judge.Goals.{After-leads-of-leads}
+use Rattle.judging.proofs.verdict.judge.Goals.{After-leads_of-leads}
 
 -- what is known once the labels balance and their leads are found
-module _ (g : given.Over) (c : After-leads-of-leads g) where
+module _ (g : given.Over) (c : After-leads_of-leads g) where
   abbrev y : List Track
   y = yard_tracks c.args.yard.now
 
@@ -26,44 +26,44 @@ module _ (g : given.Over) (c : After-leads-of-leads g) where
   few : length y ≤ 2048
   few = yard_few c.args.yard.now
 
-  led : Leads g.K.Label.group c.args.labels.now c.leads-of-leads.result (length y)
-  led = subst (λ (n : ℕ). Leads g.K.Label.group c.args.labels.now c.leads-of-leads.result n) balanced.one_each c.leads-of-leads.ensures.leads
+  led : Leads g.K.Label.group c.args.labels.now c.leads_of-leads.result (length y)
+  led = subst (λ (n : ℕ). Leads g.K.Label.group c.args.labels.now c.leads_of-leads.result n) balanced.one_each c.leads_of-leads.ensures.leads
 
-pub are-confirmed-requires : goal.are-confirmed-requires
-are-confirmed-requires g c =
-    let at = (goal.at.are-confirmed-requires g c).After-leads-of-leads in
+pub are_confirmed-requires : goal.are_confirmed-requires
+are_confirmed-requires g c =
+    let at = (goal.at.are_confirmed-requires g c).After-leads_of-leads in
     let G = g.K.Label.group in
     let ks = c.args.labels.now in
-    let leads = c.leads-of-leads.result in
+    let leads = c.leads_of-leads.result in
     record {
-      long = c.leads-of-leads.ensures.long;
+      long = c.leads_of-leads.ensures.long;
       low = λ t h l. (are_led G (y g at) ks leads (balanced g at) (few g at) (led g at) t h l).low;
       most = lead_most G (y g at) ks leads (balanced g at) (few g at) (led g at);
       led = are_led G (y g at) ks leads (balanced g at) (few g at) (led g at);
     }
 
-pub returns-then-not-are-confirmed : goal.returns-then-not-are-confirmed
-returns-then-not-are-confirmed g c =
-    let at = (goal.at.returns-then-not-are-confirmed g c).After-leads-of-leads in
-    (inr (inr (balanced g at, (λ a. not_from_Decides _ c.are-confirmed.ensures c.if-not-are-confirmed.true (accepted_confirmed g.K.Label.group (y g at) _ _ (balanced g at) (few g at) (led g at) a)), refl)), refl)
+pub returns-then-not-are_confirmed : goal.returns-then-not-are_confirmed
+returns-then-not-are_confirmed g c =
+    let at = (goal.at.returns-then-not-are_confirmed g c).After-leads_of-leads in
+    (inr (inr (balanced g at, (λ a. not_from_Decides _ c.are_confirmed.ensures c.if-not-are_confirmed.true (accepted_confirmed g.K.Label.group (y g at) _ _ (balanced g at) (few g at) (led g at) a)), refl)), refl)
 
 pub returns : goal.returns
 returns g c =
-    let at = (goal.at.returns g c).After-leads-of-leads in
+    let at = (goal.at.returns g c).After-leads_of-leads in
     let G = g.K.Label.group in
     let ks = c.args.labels.now in
-    let leads = c.leads-of-leads.result in
+    let leads = c.leads_of-leads.result in
     let e = c.tracks-tracks.ensures in
     let low = few g at in
-    let confirmed = c.are-confirmed.ensures.0 c.if-not-are-confirmed.false in
+    let confirmed = c.are_confirmed.ensures.0 c.if-not-are_confirmed.false in
     let n = length c.tracks-tracks.result.now in
-    let ms = take n c.marks-of-marks.result in
-    let long : length ms ≡ length (y g at) = length-take-le n c.marks-of-marks.result (omega (arith, ap length e, c.marks-of-marks.ensures.long)) ∙ ap length e in
-    let marked : Marked (y g at) leads ms (length (y g at)) = subst (λ (z : List Track). Marked z leads ms (length z)) e (first_marked _ leads c.marks-of-marks.result n c.marks-of-marks.ensures.marks) in
+    let ms = take n c.marks_of-marks.result in
+    let long : length ms ≡ length (y g at) = length-take-le n c.marks_of-marks.result (omega (arith, ap length e, c.marks_of-marks.ensures.long)) ∙ ap length e in
+    let marked : Marked (y g at) leads ms (length (y g at)) = subst (λ (z : List Track). Marked z leads ms (length z)) e (first_marked _ leads c.marks_of-marks.result n c.marks_of-marks.ensures.marks) in
     let right = marks_right G (y g at) ks leads (balanced g at) low (led g at) confirmed ms long marked in
     let well = marks_led G (y g at) ks leads (balanced g at) low (led g at) confirmed ms long marked in
     let done : c.rewrite.result ≡ true = c.rewrite.ensures.value.1 (omega arith, well) in (
       confirmed_accepted G (y g at) ks leads (balanced g at) low (led g at) confirmed,
       subst (MarksOf (y g at)) (sym (c.rewrite.ensures.marks ∙ cond-true _ _ _ done)) right,
-      c.rewrite.ensures.letter ∙ cond-true _ _ _ done ∙ c.own-letter.ensures,
+      c.rewrite.ensures.letter ∙ cond-true _ _ _ done ∙ c.own_letter.ensures,
     )

@@ -1,4 +1,4 @@
-use Rattle.std.proofs.Common.{◌≡◌, ◌≤◌, length, take, vec_items, vec_len, vec_capacity}
+use Rattle.std.proofs.Common.{◌≡◌, take, vec_items, vec_len, vec_capacity}
 use Rattle.sheet.proofs.making.copy_marks.Given as goal
 
 -- the marks below the number are copied, and there is room for all

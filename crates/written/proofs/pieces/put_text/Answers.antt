@@ -6,7 +6,7 @@ use Rattle.written.proofs.pieces.put_text.Goals as goal
 pub loop-byte-preserved : goal.loop-byte-preserved
 loop-byte-preserved c =
     let within : c.loop-byte.byte-index < length c.args.text.now = omega arith in
-    put_as (sym (take_more c.args.text.now c.loop-byte.byte-index 0 within)) (put_then c.loop-byte.invariant c.put-byte-next.ensures)
+    put_as (sym (take_more c.args.text.now c.loop-byte.byte-index 0 within)) (put_then c.loop-byte.invariant c.put_byte-next.ensures)
 
 pub returns : goal.returns
 returns c =

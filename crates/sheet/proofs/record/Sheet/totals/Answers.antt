@@ -1,4 +1,4 @@
-use Rattle.std.proofs.Common.{◌≡◌, ℕ, ◌+◌, ◌<◌, ◌≤◌, List, length, sym, refl, ap, ◌∙◌, subst, arith}
+use Rattle.std.proofs.Common.{◌≡◌, ℕ, ◌+◌, ◌<◌, List, length, sym, refl, ap, ◌∙◌, subst, arith}
 use Rattle.std.proofs.lemmas.List.{get_or_read}
 use Rattle.graph.specs.Counts.{start, no_pairs}
 use Rattle.graph.proofs.Counting.{count_le}
@@ -26,9 +26,9 @@ mark_read c =
 pub loop-number-init : goal.loop-number-init
 loop-number-init c = (refl, seen_none (sheet_marks c.args.self.now), record { singles = start; classes = start; pairs = no_pairs }, refl)
 
-pub count-mark-requires : goal.count-mark-requires
-count-mark-requires c =
-    let w = mark_read (goal.at.count-mark-requires c).After-index in
+pub count_mark-requires : goal.count_mark-requires
+count_mark-requires c =
+    let w = mark_read (goal.at.count_mark-requires c).After-index in
     let low = w.2 in
     let t = c.loop-number.invariant.2 in
     record {
@@ -46,10 +46,10 @@ loop-number-preserved c =
     let ms = sheet_marks c.args.self.now in
     let n = c.loop-number.number in
     let more = one_mark_more ms n c.loop-number.seen c.loop-number.totals c.loop-number.invariant.1 c.loop-number.invariant.2 c.index.result.now w.0 (omega (arith, w.1, c.loop-number.invariant.0)) w.1 in (
-      c.count-mark.auto.seen ∙ c.loop-number.invariant.0,
-      subst (λ (l : List ℕ). Seen ms l (n + 1)) (sym c.count-mark.ensures.seen) more.0,
-      subst (TotalsOf ms (n + 1)) (sym c.count-mark.ensures.totals) more.1,
-      ap (λ t. t.letter) c.count-mark.ensures.totals ∙ counted_letter n c.loop-number.seen c.loop-number.totals c.index.result.now ∙ c.loop-number.invariant.3,
+      c.count_mark.auto.seen ∙ c.loop-number.invariant.0,
+      subst (λ (l : List ℕ). Seen ms l (n + 1)) (sym c.count_mark.ensures.seen) more.0,
+      subst (TotalsOf ms (n + 1)) (sym c.count_mark.ensures.totals) more.1,
+      ap (λ t. t.letter) c.count_mark.ensures.totals ∙ counted_letter n c.loop-number.seen c.loop-number.totals c.index.result.now ∙ c.loop-number.invariant.3,
     )
 
 pub returns : goal.returns
