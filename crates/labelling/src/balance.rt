@@ -14,7 +14,7 @@ use yard::Yard;
 // Whether every shut track carries zero.
 fn shut_carry_zero<K: Label>(tracks: &[Track], labels: &[K]) -> bool
     requires { length labels.now ≡ length tracks.now }
-    ensures { Decides result ((t : ℕ) → (track tracks.now t).shut ≡ true → carried group labels.now t ≡ group.zero) }
+    ensures { Decides result ((t : ℕ) → (track tracks.now t).shut ≡ true → carried K.group labels.now t ≡ K.group.zero) }
 {
     let zero = K::zero();
     for number in 0..tracks.len() {
@@ -30,7 +30,7 @@ fn each_point_balances<K: Label>(tracks: &[Track], labels: &[K]) -> bool
     requires few { length tracks.now ≤ 2048 }
     requires points { Points tracks.now }
     requires long { length labels.now ≡ length tracks.now }
-    ensures { Decides result ((p : ℕ) → total group (leaves_from p) tracks.now labels.now ≡ total group (enters_at p) tracks.now labels.now) }
+    ensures { Decides result ((p : ℕ) → total K.group (leaves_from p) tracks.now labels.now ≡ total K.group (enters_at p) tracks.now labels.now) }
 {
     let leaving = Chains::of(tracks, false);
     let entering = Chains::of(tracks, true);
@@ -47,7 +47,7 @@ fn each_point_balances<K: Label>(tracks: &[Track], labels: &[K]) -> bool
 // Whether labels balance on a yard: there is one for each track, every shut track carries zero, and at each point the
 // labels of the open tracks with that first point sum to the same as those with that second point.
 pub fn balances<K: Label>(yard: &Yard, labels: &[K]) -> bool
-    ensures { Decides result (Balanced group (yard_tracks yard.now) labels.now) }
+    ensures { Decides result (Balanced K.group (yard_tracks yard.now) labels.now) }
 {
     let tracks = yard.tracks();
     labels.len() == tracks.len()

@@ -59,7 +59,7 @@ impl Chains {
         requires few { length tracks.now ≤ 2048 }
         requires long { length labels.now ≡ length tracks.now }
         requires chained { Chained self.now.heads self.now.links second tracks.now (length tracks.now) }
-        ensures { result ≡ total group (at_end second point) tracks.now labels.now }
+        ensures { result ≡ total K.group (at_end second point) tracks.now labels.now }
     {
         let mut sum = K::zero();
         let mut at = self.heads[point];

@@ -33,7 +33,7 @@ pub(crate) fn chord_count(tracks: &[Track], forest: &[bool]) -> usize
 // What one of the words draws.
 fn draw_word<K: Label>(words: &[u64], number: usize) -> K
     requires { number < length words.now }
-    ensures { result ≡ drawn (slice_index words.now number) }
+    ensures { result ≡ K.drawn (slice_index words.now number) }
 {
     K::draw(words[number])
 }
@@ -49,7 +49,7 @@ pub(crate) fn draw_chords<K: Label>(
     requires told { (t : ℕ) → Decides (flagged forest.now t) (InForest tracks.now t) }
     requires long { length labels.old ≡ length tracks.now }
     requires enough { (m : ℕ) → WordsNeeded tracks.now m → m ≤ length words.now }
-    ensures { ChordsDrawn group tracks.now (λ i. drawn (slice_index words.now i)) labels.new (length tracks.now) }
+    ensures { ChordsDrawn K.group tracks.now (λ i. K.drawn (slice_index words.now i)) labels.new (length tracks.now) }
 {
     let mut used = 0;
     for number in 0..tracks.len() {

@@ -40,7 +40,7 @@ fn settle<K: Label>(
     requires enter { Chained entering.now.heads entering.now.links true tracks.now (length tracks.now) }
     requires there { number < length tracks.now }
     requires at { point < 512 }
-    ensures { labels.new ≡ slice_set labels.old number (owed group tracks.now labels.old number point) }
+    ensures { labels.new ≡ slice_set labels.old number (owed K.group tracks.now labels.old number point) }
 {
     let out = leaving.sum_at(tracks, false, labels, point as usize);
     let into = entering.sum_at(tracks, true, labels, point as usize);
@@ -71,7 +71,7 @@ fn follow<K: Label>(
     requires degrees { Degrees tracks.now leaves.old.left leaves.old.counts leaves.old.names (length tracks.now) }
     ensures forest { (t : ℕ) → flagged leaves.new.left t ≡ true → InForest tracks.now t }
     ensures degrees { Degrees tracks.now leaves.new.left leaves.new.counts leaves.new.names (length tracks.now) }
-    ensures known { (L : List K) → Balanced group tracks.now L → Known group L labels.old leaves.old.left → Known group L labels.new leaves.new.left }
+    ensures known { (L : List K) → Balanced K.group tracks.now L → Known K.group L labels.old leaves.old.left → Known K.group L labels.new leaves.new.left }
     ensures done { (p : ℕ) → p < 512 → (p ≡ start) ⊎ (slice_index leaves.old.counts p ≢ 1) → slice_index leaves.new.counts p ≢ 1 }
 {
     let mut at = start;
@@ -91,7 +91,7 @@ pub(crate) fn settle_forest<K: Label>(tracks: &[Track], leaves: &mut Leaves, lab
     requires long { length labels.old ≡ length tracks.now }
     requires forest { (t : ℕ) → flagged leaves.old.left t ≡ true → InForest tracks.now t }
     requires degrees { Degrees tracks.now leaves.old.left leaves.old.counts leaves.old.names (length tracks.now) }
-    ensures { (L : List K) → Balanced group tracks.now L → Known group L labels.old leaves.old.left → labels.new ≡ L }
+    ensures { (L : List K) → Balanced K.group tracks.now L → Known K.group L labels.old leaves.old.left → labels.new ≡ L }
 {
     let leaving = Chains::of(tracks, false);
     let entering = Chains::of(tracks, true);

@@ -19,7 +19,7 @@ pub fn label_tracks<K: Label>(
     words: &[u64],
     labels: &mut [K],
 ) -> Result<usize, Refusal>
-    ensures { LabelAnswer group (yard_tracks yard.now) (λ i. drawn (slice_index words.now i)) (length words.now) labels.old labels.new (numbered result) }
+    ensures { LabelAnswer K.group (yard_tracks yard.now) (λ i. K.drawn (slice_index words.now i)) (length words.now) labels.old labels.new (numbered result) }
 {
     let tracks = yard.tracks();
     if labels.len() != tracks.len() {

@@ -8,15 +8,15 @@ use Rattle.labelling.specs.Settled.{ChordsDrawn}
 use Rattle.labelling.proofs.Chorded.{chord_said, no_chord_said, drawn_more, zero_more}
 use Rattle.labelling.proofs.chords.draw_chords.Given as given
 use Rattle.labelling.proofs.chords.draw_chords.Goals as goal
-use Rattle.labelling.proofs.chords.draw_chords.Goals.{Then-is-chord, then-is-chord, else-is-chord}
+use Rattle.labelling.proofs.chords.draw_chords.Goals.{Then-is_chord, then-is_chord, else-is_chord}
 
 -- a word is there for this chord
-word_there : (g : given.Over) (c : Then-is-chord g) → c.loop-number.used < length c.args.words.now
+word_there : (g : given.Over) (c : Then-is_chord g) → c.loop-number.used < length c.args.words.now
 word_there g c =
     let y = c.args.tracks.now in
     let n = c.loop-number.number in
     let all = chords y (length y) in
-    let chord = chord_said y n _ _ (read y n blank c.loop-number-test.true) (c.requires.told n) c.if-is-chord.ensures in
+    let chord = chord_said y n _ _ (read y n blank c.loop-number-test.true) (c.requires.told n) c.if-is_chord.ensures in
     let before = count_before c.loop-number.invariant.0 chord c.loop-number-test.true all.1 in
     let enough = c.requires.enough all.0 all.1 in
     omega arith
@@ -24,11 +24,11 @@ word_there g c =
 pub loop-number-init : goal.loop-number-init
 loop-number-init g c = (start, record { chord = λ t i h. absurd (omega arith); other = λ t h. absurd (omega arith) })
 
-pub draw-word-requires : goal.draw-word-requires
-draw-word-requires g c = word_there g (goal.at.draw-word-requires g c).Then-is-chord
+pub draw_word-requires : goal.draw_word-requires
+draw_word-requires g c = word_there g (goal.at.draw_word-requires g c).Then-is_chord
 
-pub overflow-add-used : goal.overflow-add-used
-overflow-add-used g c = let h = word_there g (goal.at.overflow-add-used g c).Then-is-chord in search rules
+pub overflow_add-used : goal.overflow_add-used
+overflow_add-used g c = let h = word_there g (goal.at.overflow_add-used g c).Then-is_chord in search rules
 
 pub loop-number-preserved : goal.loop-number-preserved
 loop-number-preserved g c =
@@ -38,14 +38,14 @@ loop-number-preserved g c =
     let drawn : ℕ → g.row.K.Denot = λ i. g.K.Label.drawn (get_or c.args.words.now i 0) in
     let is = read y n blank c.loop-number-test.true in
     let low : n < length ks = let long = c.requires.long in omega (arith, c.loop-number.auto.labels) in
-    elim c.if-is-chord.branch [
-      | then-is-chord w ↦
-          let chord = chord_said y n _ _ is (c.requires.told n) w.if-is-chord.ensures in (
+    elim c.if-is_chord.branch [
+      | then-is_chord w ↦
+          let chord = chord_said y n _ _ is (c.requires.told n) w.if-is_chord.ensures in (
             subst (Count (Chord y) (n + 1)) (sym w.used-is) (one_more (Chord y) n c.loop-number.used c.loop-number.invariant.0 chord),
-            subst (λ ls. ChordsDrawn g.K.Label.group y drawn ls (n + 1)) (sym w.labels-is) (drawn_more g.K.Label.group y drawn ks n low c.loop-number.invariant.1 _ c.loop-number.used c.loop-number.invariant.0 chord w.draw-word.ensures),
+            subst (λ ls. ChordsDrawn g.K.Label.group y drawn ls (n + 1)) (sym w.labels-is) (drawn_more g.K.Label.group y drawn ks n low c.loop-number.invariant.1 _ c.loop-number.used c.loop-number.invariant.0 chord w.draw_word.ensures),
           )
-      | else-is-chord w ↦
-          let none = no_chord_said y n _ _ is (c.requires.told n) w.if-is-chord.ensures in (
+      | else-is_chord w ↦
+          let none = no_chord_said y n _ _ is (c.requires.told n) w.if-is_chord.ensures in (
             subst (Count (Chord y) (n + 1)) (sym w.used-is) (none_more (Chord y) n c.loop-number.used c.loop-number.invariant.0 none),
             subst (λ ls. ChordsDrawn g.K.Label.group y drawn ls (n + 1)) (sym w.labels-is) (zero_more g.K.Label.group y drawn ks n low c.loop-number.invariant.1 _ none w.zero.ensures),
           )

@@ -20,15 +20,15 @@ leaf_at g c = record {
   named = c.loop-number.leaves.named;
   sound = c.loop-number.invariant.1;
   low = c.loop-number.invariant.0;
-  only = sym c.only-at.ensures ∙ c.in-Some.is;
+  only = sym c.only_at.ensures ∙ c.in-Some.is;
 }
 
 -- as it is read
 read_at : (g : given.Over) (c : In-Some g) → get_or c.args.tracks.now c.in-Some.number blank ≡ track c.args.tracks.now c.in-Some.number
 read_at g c = read c.args.tracks.now c.in-Some.number blank (step_there (leaf_at g c))
 
-pub offset-bounds-tracks-number : goal.offset-bounds-tracks-number
-offset-bounds-tracks-number g c = let h = step_there (leaf_at g (goal.at.offset-bounds-tracks-number g c).In-Some) in let few = c.requires.few in search rules
+pub offset_bounds-tracks-number : goal.offset_bounds-tracks-number
+offset_bounds-tracks-number g c = let h = step_there (leaf_at g (goal.at.offset_bounds-tracks-number g c).In-Some) in let few = c.requires.few in search rules
 
 pub bounds-tracks-number : goal.bounds-tracks-number
 bounds-tracks-number g c = step_there (leaf_at g (goal.at.bounds-tracks-number g c).In-Some)
@@ -38,10 +38,10 @@ settle-requires g c =
     let s = leaf_at g (goal.at.settle-requires g c).In-Some in
     record { few = c.requires.few; long = c.loop-number.auto.labels ∙ c.requires.long; leave = c.requires.leave; enter = c.requires.enter; there = step_there s; at = c.loop-number.invariant.0 }
 
-pub take-off-requires : goal.take-off-requires
-take-off-requires g c =
-    let s = leaf_at g (goal.at.take-off-requires g c).In-Some in
-    let is = sym (read_at g (goal.at.take-off-requires g c).In-Some) in
+pub take_off-requires : goal.take_off-requires
+take_off-requires g c =
+    let s = leaf_at g (goal.at.take_off-requires g c).In-Some in
+    let is = sym (read_at g (goal.at.take_off-requires g c).In-Some) in
     record {
       there = let few = c.requires.few in omega (arith, step_there s);
       first = subst (λ (x : Track). x.first < 512) is (step_first s);
@@ -54,20 +54,20 @@ take-off-requires g c =
 pub loop-number-smaller : goal.loop-number-smaller
 loop-number-smaller g c =
     let s = leaf_at g (goal.at.loop-number-smaller g c).In-Some in
-    subst (λ l. flags_set l < flags_set c.loop-number.leaves.left) (sym c.take-off.ensures.left) (fewer_set c.loop-number.leaves.left c.in-Some.number (step_flag s))
+    subst (λ l. flags_set l < flags_set c.loop-number.leaves.left) (sym c.take_off.ensures.left) (fewer_set c.loop-number.leaves.left c.in-Some.number (step_flag s))
 
 pub loop-number-preserved : goal.loop-number-preserved
 loop-number-preserved g c =
     let s = leaf_at g (goal.at.loop-number-preserved g c).In-Some in
     let is = read_at g (goal.at.loop-number-preserved g c).In-Some in
     let n = c.in-Some.number in
-    let counted = subst (λ (x : Track). c.take-off.new.self.counts ≡ at_both (λ k. k - 1) x.first x.second c.loop-number.leaves.counts) is c.take-off.ensures.counted in
-    let named = subst (λ (x : Track). c.take-off.new.self.names ≡ at_both (λ k. bit_xor k n) x.first x.second c.loop-number.leaves.names) is c.take-off.ensures.named in
-    let on = subst (λ (x : Track). c.other-end-at.result ≡ cond (eqb x.first c.loop-number.at) x.second x.first) is c.other-end-at.ensures in (
+    let counted = subst (λ (x : Track). c.take_off.new.self.counts ≡ at_both (λ k. k - 1) x.first x.second c.loop-number.leaves.counts) is c.take_off.ensures.counted in
+    let named = subst (λ (x : Track). c.take_off.new.self.names ≡ at_both (λ k. bit_xor k n) x.first x.second c.loop-number.leaves.names) is c.take_off.ensures.named in
+    let on = subst (λ (x : Track). c.other_end-at.result ≡ cond (eqb x.first c.loop-number.at) x.second x.first) is c.other_end-at.ensures in (
       subst (λ (p : ℕ). p < 512) (sym on) (onward_low s),
-      step_sound s _ _ _ c.take-off.ensures.left counted named,
-      λ L b k. step_known s _ _ _ c.take-off.ensures.left counted named g.K.Label.group L _ _ (c.loop-number.auto.labels ∙ c.requires.long) c.settle.ensures b (c.loop-number.invariant.2 L b k),
-      λ p h ne w. step_done s _ _ _ c.take-off.ensures.left counted named p (λ e. ne (e ∙ sym on)) (λ off. c.loop-number.invariant.3 p h off w),
+      step_sound s _ _ _ c.take_off.ensures.left counted named,
+      λ L b k. step_known s _ _ _ c.take_off.ensures.left counted named g.K.Label.group L _ _ (c.loop-number.auto.labels ∙ c.requires.long) c.settle.ensures b (c.loop-number.invariant.2 L b k),
+      λ p h ne w. step_done s _ _ _ c.take_off.ensures.left counted named p (λ e. ne (e ∙ sym on)) (λ off. c.loop-number.invariant.3 p h off w),
     )
 
 pub returns : goal.returns
@@ -75,5 +75,5 @@ returns g c = record {
   forest = c.loop-number.invariant.1.forest;
   degrees = c.loop-number.invariant.1.degrees;
   known = c.loop-number.invariant.2;
-  done = λ p h w. ⊎_elim (λ e. subst (λ (q : ℕ). get_or c.loop-number.leaves.counts q 0 ≢ 1) (sym e) (not_only _ _ (sym c.only-at.ensures ∙ c.in-default.is))) (λ ne. c.loop-number.invariant.3 p h ne w) (cases_eq p c.loop-number.at);
+  done = λ p h w. ⊎_elim (λ e. subst (λ (q : ℕ). get_or c.loop-number.leaves.counts q 0 ≢ 1) (sym e) (not_only _ _ (sym c.only_at.ensures ∙ c.in_default.is))) (λ ne. c.loop-number.invariant.3 p h ne w) (cases_eq p c.loop-number.at);
 }

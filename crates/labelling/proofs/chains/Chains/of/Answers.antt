@@ -24,13 +24,13 @@ loop-number-preserved c =
     elim c.if-not-one.branch [
       | then-not-one w ↦
           let is_open : (track y n).shut ≡ false = ap (λ x. x.shut) (sym is) ∙ not-true _ w.if-not-one.true in
-          let at_point : end_of c.args.second (track y n) ≡ w.end-of-point.result = ap (end_of c.args.second) (sym is) ∙ sym w.end-of-point.ensures in
+          let at_point : end_of c.args.second (track y n) ≡ w.end_of-point.result = ap (end_of c.args.second) (sym is) ∙ sym w.end_of-point.ensures in
           let low = end_low y c.args.second n c.loop-number-test.true c.requires.points in
-          let in-heads : w.end-of-point.result < length heads = omega (arith, low, at_point, c.loop-number.invariant.0) in
+          let in-heads : w.end_of-point.result < length heads = omega (arith, low, at_point, c.loop-number.invariant.0) in
           let in-links : n < length links = omega (arith, c.requires.few, c.loop-number.invariant.1) in
           subst (λ ls. Good c.if-not-one.heads ls) (sym w.links-is)
-          (subst (λ hs. Good hs (set links n (get_or heads w.end-of-point.result 0))) (sym w.heads-is)
-          (length-set _ _ _ ∙ c.loop-number.invariant.0, length-set _ _ _ ∙ c.loop-number.invariant.1, chained_open y c.args.second n heads links w.end-of-point.result is_open at_point in-heads in-links c.loop-number.invariant.2))
+          (subst (λ hs. Good hs (set links n (get_or heads w.end_of-point.result 0))) (sym w.heads-is)
+          (length-set _ _ _ ∙ c.loop-number.invariant.0, length-set _ _ _ ∙ c.loop-number.invariant.1, chained_open y c.args.second n heads links w.end_of-point.result is_open at_point in-heads in-links c.loop-number.invariant.2))
       | else-not-one w ↦
           let is-shut : (track y n).shut ≡ true = ap (λ x. x.shut) (sym is) ∙ not-false _ w.if-not-one.false in
           subst (λ ls. Good c.if-not-one.heads ls) (sym w.links-is)

@@ -8,17 +8,17 @@ use Rattle.labelling.proofs.chains.Chains.sum_at.Goals as goal
 pub loop-at-init : goal.loop-at-init
 loop-at-init g c = along_start g.K.Label.group _ _ _ _ _ _ c.zero-sum.ensures (c.requires.chained c.args.point c.requires.point)
 
-pub overflow-cast-track : goal.overflow-cast-track
-overflow-cast-track g c = let le = along_le _ _ _ _ _ c.loop-at.invariant in let few = c.requires.few in search rules
+pub overflow_cast-track : goal.overflow_cast-track
+overflow_cast-track g c = let le = along_le _ _ _ _ _ c.loop-at.invariant in let few = c.requires.few in search rules
 
-pub offset-bounds-labels-track : goal.offset-bounds-labels-track
-offset-bounds-labels-track g c = let le = along_le _ _ _ _ _ c.loop-at.invariant in let long = c.requires.long in omega arith
+pub offset_bounds-labels-track : goal.offset_bounds-labels-track
+offset_bounds-labels-track g c = let le = along_le _ _ _ _ _ c.loop-at.invariant in let long = c.requires.long in omega arith
 
 pub bounds-labels-track : goal.bounds-labels-track
 bounds-labels-track g c = let le = along_le _ _ _ _ _ c.loop-at.invariant in let long = c.requires.long in omega arith
 
-pub offset-bounds-self-track : goal.offset-bounds-self-track
-offset-bounds-self-track g c = let le = along_le _ _ _ _ _ c.loop-at.invariant in let few = c.requires.few in let room = c.args.self.now.room in omega arith
+pub offset_bounds-self-track : goal.offset_bounds-self-track
+offset_bounds-self-track g c = let le = along_le _ _ _ _ _ c.loop-at.invariant in let few = c.requires.few in let room = c.args.self.now.room in omega arith
 
 pub bounds-self-track : goal.bounds-self-track
 bounds-self-track g c = let le = along_le _ _ _ _ _ c.loop-at.invariant in let few = c.requires.few in let room = c.args.self.now.room in omega arith
