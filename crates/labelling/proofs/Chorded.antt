@@ -1,5 +1,5 @@
 -- Chords by the flags of the forest, and what is drawn for one chord more. Assumes nothing.
-use Rattle.std.proofs.Common.{◌≡◌, ℕ, suc, ◌+◌, ◌<◌, ◌≤◌, Bool, true, false, not, ◌&&◌, ◌≢◌, List, length, get_or, take, set, Decides, sym, refl, ap, ◌∙◌, subst, ⊎_elim, add-one, arith}
+use Rattle.std.proofs.Common.{◌≡◌, ℕ, ◌+◌, ◌<◌, Bool, true, false, not, ◌&&◌, ◌≢◌, List, length, take, set, Decides, sym, ap, ◌∙◌, subst, ⊎_elim, arith}
 use Rattle.std.proofs.lemmas.List.{get_or-set_same, get_or-set_other}
 use Rattle.std.proofs.lemmas.Bool.{cases_eq}
 use Rattle.std.proofs.lemmas.Bool.Decides.{Decides-and, Decides-not, Decides-like, not_from_Decides}
@@ -7,7 +7,7 @@ use Rattle.network.specs.declared.track.Track.{Track}
 use Rattle.label.specs.Groups.{Group}
 use Rattle.graph.specs.Counts.{Count}
 use Rattle.graph.specs.Forests.{Chord, InForest}
-use Rattle.graph.specs.Yards.{track, Open}
+use Rattle.graph.specs.Yards.{track}
 use Rattle.graph.proofs.Counting.{count_same}
 use Rattle.graph.proofs.Decide.{joined_or}
 use Rattle.graph.proofs.Tests.{decides_open}

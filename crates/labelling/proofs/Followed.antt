@@ -1,5 +1,5 @@
 -- One step of the settling: the track that is alone at a point is settled and taken off. Assumes nothing.
-use Rattle.std.proofs.Common.{◌≡◌, ℕ, zero, suc, ◌-◌, ◌<◌, ◌≤◌, Bool, true, false, cond, eqb, ◌≢◌, ◌⊎◌, List, [], ◌∷◌, length, get_or, set, Some, None, Option, sym, refl, ap, ◌∙◌, subst, inl, inr, ⊎_elim, arith, length-set}
+use Rattle.std.proofs.Common.{◌≡◌, ℕ, zero, suc, ◌-◌, ◌<◌, ◌≤◌, Bool, true, false, cond, eqb, ◌≢◌, ◌⊎◌, List, [], ◌∷◌, length, get_or, set, Some, None, sym, refl, ap, ◌∙◌, subst, inl, inr, ⊎_elim, arith}
 use lib.Bits.{bit_xor}
 use Rattle.std.proofs.lemmas.List.{get_or-set_same, get_or-set_other}
 use Rattle.std.proofs.lemmas.Bool.{cases_eq, cases_Bool, true≢false, false≢true, eqb-true, eq-eqb, ne_eqb}
@@ -11,7 +11,7 @@ use Rattle.graph.specs.Forests.{InForest, Touches}
 use Rattle.graph.specs.Yards.{track}
 use Rattle.graph.proofs.Degrees.{one_named, one_alone}
 use Rattle.graph.proofs.Fronts.{open_within}
-use Rattle.graph.proofs.Peeled.{two_ends, moved, stayed, degree_some, degrees_off, none_left}
+use Rattle.graph.proofs.Peeled.{two_ends, moved, stayed, degree_some, degrees_off}
 use Rattle.circulation.specs.Labels.{label, Balanced}
 use Rattle.circulation.specs.Labellings.{owed}
 use Rattle.circulation.proofs.Values.{owed_is}

@@ -1,4 +1,4 @@
-use Rattle.std.proofs.Common.{◌≡◌, sym, ◌∙◌, arith, below_more}
+use Rattle.std.proofs.Common.{sym, ◌∙◌, arith, below_more}
 use Rattle.std.proofs.lemmas.Bool.{both_ways}
 use Rattle.labelling.proofs.Bounds.{decides_true, decides_false, at_all_points}
 use Rattle.labelling.proofs.balance.each_point_balances.Goals as goal

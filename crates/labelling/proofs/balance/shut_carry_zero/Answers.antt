@@ -1,9 +1,8 @@
-use Rattle.std.proofs.Common.{◌≡◌, ◌<◌, true, false, length, sym, ap, ◌∙◌, arith, below_more}
+use Rattle.std.proofs.Common.{◌≡◌, ◌<◌, true, length, sym, ap, ◌∙◌, arith, below_more}
 use Rattle.std.proofs.lemmas.List.{get_or_read}
 use Rattle.std.proofs.lemmas.Bool.{both_ways}
 use Rattle.graph.specs.Yards.{track}
 use Rattle.graph.proofs.Fronts.{blank, read}
-use Rattle.circulation.specs.Labels.{label}
 use Rattle.labelling.proofs.Bounds.{decides_true, decides_false, all_shut_zero}
 use Rattle.labelling.proofs.balance.shut_carry_zero.Goals as goal
 use Rattle.labelling.proofs.balance.shut_carry_zero.Goals.{else-tracks-number-via-then-tracks-number+else-not-same, else-tracks-number-via-else-tracks-number}

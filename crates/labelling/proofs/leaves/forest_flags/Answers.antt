@@ -1,7 +1,6 @@
-use Rattle.std.proofs.Common.{◌≡◌, ℕ, ◌≤◌, true, false, length, replicate, is_ok, sym, ap, ◌∙◌, arith}
+use Rattle.std.proofs.Common.{◌≡◌, ◌≤◌, false, length, replicate, is_ok, sym, ap, ◌∙◌, arith}
 use Rattle.std.proofs.lemmas.List.{length-take-le}
 use Rattle.std.proofs.lemmas.Bool.{cond-true, eq-eqb}
-use Rattle.network.specs.Refusals.{numbered}
 use Rattle.yard.specs.Meaning.{yard_tracks}
 use Rattle.labelling.proofs.Points.{yard_few}
 use Rattle.labelling.proofs.Flags.{flags_long, flags_told}

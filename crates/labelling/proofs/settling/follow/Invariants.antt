@@ -1,4 +1,4 @@
-use Rattle.std.proofs.Common.{◌≡◌, ℕ, ◌<◌, ◌≢◌, ◌⊎◌, List, length, get_or}
+use Rattle.std.proofs.Common.{◌≡◌, ℕ, ◌<◌, ◌≢◌, ◌⊎◌, List, get_or}
 use Rattle.circulation.specs.Labels.{Balanced}
 use Rattle.labelling.specs.Settled.{Known}
 use Rattle.labelling.proofs.Followed.{Sound, flags_set}

@@ -1,4 +1,4 @@
-use Rattle.std.proofs.Common.{◌≡◌, ℕ, ◌≤◌, Bool, List, length, get_or, Decides, sym, refl, ap, ◌∙◌, subst, arith}
+use Rattle.std.proofs.Common.{ℕ, Bool, List, length, get_or, Decides, sym, ap, ◌∙◌, subst, arith}
 use Rattle.network.specs.declared.track.Track.{Track}
 use Rattle.graph.specs.Degrees.{flagged}
 use Rattle.graph.specs.Forests.{InForest, WordsNeeded}

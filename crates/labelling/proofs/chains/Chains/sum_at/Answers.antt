@@ -1,8 +1,7 @@
-use Rattle.std.proofs.Common.{◌≡◌, ℕ, ◌+◌, ◌-◌, ◌<◌, length, get_or, sym, ap, ◌∙◌, arith, rules}
+use Rattle.std.proofs.Common.{◌-◌, ◌<◌, length, sym, ap, ◌∙◌, arith, rules}
 use Rattle.std.proofs.lemmas.List.{get_or_read}
-use Rattle.circulation.specs.Labels.{label}
 use Rattle.circulation.specs.Chains.{at_end}
-use Rattle.circulation.proofs.Chains.{total_below, along_start, along_le, along_low, along_falls, along_more, along_done}
+use Rattle.circulation.proofs.Chains.{total_below, along_start, along_le, along_falls, along_more, along_done}
 use Rattle.labelling.proofs.chains.Chains.sum_at.Goals as goal
 
 pub loop-at-init : goal.loop-at-init
