@@ -34,7 +34,7 @@ fn status_of(answer: Result<usize, Refusal>) -> u8
 
 // Labels the tracks of a yard, so many times.
 fn label_times<K: Label>(yard: &Yard, words: &[u64], times: u32, labels: &mut [K]) -> u8
-    ensures { Repeated group (yard_tracks yard.now) (λ i. drawn (slice_index words.now i)) (length words.now) times labels.old labels.new result }
+    ensures { Repeated K.group (yard_tracks yard.now) (λ i. K.drawn (slice_index words.now i)) (length words.now) times labels.old labels.new result }
 {
     let mut status = 0;
     for _round in 0..times {
@@ -51,7 +51,7 @@ fn label_given<K: Label>(
     times: u32,
     labels: &mut [K],
 ) -> u8
-    ensures { Labelled group (tracks_of given.now) (λ i. drawn (slice_index words.now i)) (length words.now) times labels.old labels.new result }
+    ensures { Labelled K.group (tracks_of given.now) (λ i. K.drawn (slice_index words.now i)) (length words.now) times labels.old labels.new result }
 {
     match yard_of(heap, given) {
         Ok(yard) => label_times(&yard, words, times, labels),
@@ -61,7 +61,7 @@ fn label_given<K: Label>(
 
 // Writes whether labels balance on these tracks.
 fn weigh_given<K: Label>(heap: Global, given: &[Given], labels: &[K], balanced: &mut bool) -> u8
-    ensures { Weighed group (tracks_of given.now) labels.now balanced.old balanced.new result }
+    ensures { Weighed K.group (tracks_of given.now) labels.now balanced.old balanced.new result }
 {
     match yard_of(heap, given) {
         Ok(yard) => {

@@ -8,4 +8,4 @@ returns-in-Ok g c =
     let words = c.args.words.now in
     let drawn : ℕ → g.row.K.Denot = λ i. g.K.Label.drawn (get_or words i 0) in
     let made = c.in-Ok.ensures in
-    inr (made.0, subst (λ (y : List Track). Repeated g.K.Label.group y drawn (length words) c.args.times c.args.labels.now c.label-times.new.labels c.label-times.result) made.1 c.label-times.ensures)
+    inr (made.0, subst (λ (y : List Track). Repeated g.K.Label.group y drawn (length words) c.args.times c.args.labels.now c.label_times.new.labels c.label_times.result) made.1 c.label_times.ensures)
