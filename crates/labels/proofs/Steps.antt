@@ -1,5 +1,5 @@
 -- One more line, and labels that are drawn into a list. Assumes nothing.
-use Rattle.std.proofs.Common.{◌≡◌, ℕ, ◌+◌, ◌<◌, ◌≤◌, List, [], ◌∷◌, ◌++◌, length, get_or, take, sym, refl, ap, ◌∙◌, inl, inr, add-one, arith, take_all}
+use Rattle.std.proofs.Common.{◌≡◌, ℕ, ◌+◌, ◌<◌, ◌≤◌, Bool, true, List, ◌++◌, length, get_or, take, sym, ap, ◌∙◌, inl, inr, add-one, arith, take_all}
 use lib.Seq.{take-append-le}
 use Rattle.std.proofs.lemmas.List.{append_assoc, get_or_default}
 use Rattle.network.specs.declared.track.Track.{Track}
@@ -12,7 +12,7 @@ use Rattle.graph.specs.Yards.{track}
 use Rattle.graph.proofs.Counting.{count_same}
 use Rattle.circulation.specs.Labels.{label}
 use Rattle.labelling.specs.Told.{LabelRefusal}
-use Rattle.labels.specs.Rows.{header, row, rows}
+use Rattle.labels.specs.Rows.{header, row, rows, summary_line}
 
 -- a list that is as long as what is taken is taken whole
 pub taken_whole : {A : Type 0} (ks rest : List A) (n : ℕ) → n ≡ length ks → take n (ks ++ rest) ≡ ks
@@ -47,3 +47,13 @@ module _ (ts : List Track) (xs : List Xor) (ss : List Sum32) (bs : List (Both Xo
       ∙ append_assoc header (rows ts xs ss bs n) line
       ∙ ap (λ l. header ++ (rows ts xs ss bs n ++ l)) is
       ∙ ap (λ k. header ++ rows ts xs ss bs k) (sym (add-one n))
+
+-- the lines of all tracks, and the last line where the labels balance
+pub all_written : (ts us : List Track) (xs : List Xor) (ss : List Sum32) (bs : List (Both Xor Sum32)) (text line new : List ℕ) (needed given : ℕ) (balanced : Bool) → us ≡ ts → balanced ≡ true → text ≡ header ++ rows us xs ss bs (length us) → line ≡ summary_line (length us) needed given balanced → new ≡ text ++ line → new ≡ header ++ (rows ts xs ss bs (length ts) ++ summary_line (length ts) needed given true)
+all_written ts us xs ss bs text line new needed given balanced same holds read last e =
+    e
+    ∙ ap (λ t. t ++ line) read
+    ∙ append_assoc header (rows us xs ss bs (length us)) line
+    ∙ ap (λ l. header ++ (rows us xs ss bs (length us) ++ l)) last
+    ∙ ap (λ (u : List Track). header ++ (rows u xs ss bs (length u) ++ summary_line (length u) needed given balanced)) same
+    ∙ ap (λ (b : Bool). header ++ (rows ts xs ss bs (length ts) ++ summary_line (length ts) needed given b)) holds

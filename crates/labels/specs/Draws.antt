@@ -1,6 +1,5 @@
 -- Labels of three kinds that the same words draw. Assumes nothing.
-use Rattle.std.specs.Prelude.{◌≡◌, ℕ, ◌<◌, ◌≤◌, List, length, Ok, Err, Result, Vec, slice_index}
-use Rattle.std.specs.declared.alloc.Global.{Global}
+use Rattle.std.specs.Prelude.{◌≡◌, ℕ, ◌<◌, ◌≤◌, List, length, slice_index}
 use Rattle.network.specs.Refusals.{refusal_number}
 use Rattle.network.specs.declared.track.Track.{Track}
 use Rattle.label.specs.Groups.{Group}
@@ -12,7 +11,6 @@ use Rattle.graph.specs.Forests.{WordsNeeded}
 use Rattle.labelling.specs.Told.{TheLabelling}
 use Rattle.labels.specs.declared.drawing.Stop.{Stop}
 use Rattle.labels.specs.declared.drawing.Stop.TheVariants.{Refused, NoMemory}
-use Rattle.labels.specs.declared.drawing.Drawn.{Drawn}
 
 -- as many words as are needed draw these labels
 pub record Drew {K : Type 0} (G : Group K) (y : List Track) (drawn : ℕ → K) (given : ℕ) (ks : List K) : Type 0 where

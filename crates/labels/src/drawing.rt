@@ -59,7 +59,7 @@ fn zeros<K: Label>(heap: Global, count: usize) -> Result<Vec<K>, AllocError>
 
 // The labels of one kind that words draw.
 fn draw<K: Label>(heap: Global, yard: &Yard, words: &[u64]) -> Result<Vec<K>, Stop>
-    ensures { MatchResult result (λ v. Drew group (yard_tracks yard.now) (λ i. drawn (slice_index words.now i)) (length words.now) v.items) (λ s. Stopped (yard_tracks yard.now) (length words.now) s) }
+    ensures { MatchResult result (λ v. Drew K.group (yard_tracks yard.now) (λ i. K.drawn (slice_index words.now i)) (length words.now) v.items) (λ s. Stopped (yard_tracks yard.now) (length words.now) s) }
 {
     let mut labels = zeros(heap, yard.tracks().len())?;
     label_tracks(yard, words, labels.as_mut_slice())?;

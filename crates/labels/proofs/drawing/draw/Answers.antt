@@ -1,26 +1,26 @@
-use Rattle.std.proofs.Common.{◌≡◌, ℕ, List, length, get_or, Ok, Err, vec_items, sym, ap, ◌∙◌, subst, arith, MatchResult}
+use Rattle.std.proofs.Common.{◌≡◌, ℕ, length, get_or, sym, ap, ◌∙◌, subst}
 use Rattle.std.proofs.lemmas.Result.{err_from_is_err_and}
 use Rattle.yard.specs.Meaning.{yard_tracks}
-use Rattle.labels.specs.Draws.{Drew, Stopped}
+use Rattle.labels.specs.Draws.{Drew}
 use Rattle.labels.proofs.Steps.{taken_whole, too_few}
 use Rattle.labels.proofs.drawing.draw.Goals as goal
 
-pub returns-in-err-labels : goal.returns-in-err-labels
-returns-in-err-labels g c =
-    let p = err_from_is_err_and c.from-residual.result c.from-residual.ensures.1 in
+pub returns-in_err-labels : goal.returns-in_err-labels
+returns-in_err-labels g c =
+    let p = err_from_is_err_and c.from_residual.result c.from_residual.ensures.1 in
     rw (p.1, p.2) tt
 
-pub returns-in-err-label-tracks : goal.returns-in-err-label-tracks
-returns-in-err-label-tracks g c =
+pub returns-in_err-label_tracks : goal.returns-in_err-label_tracks
+returns-in_err-label_tracks g c =
     let y = yard_tracks c.args.yard.now in
-    let p = err_from_is_err_and c.from-residual-in-err-label-tracks.result c.from-residual-in-err-label-tracks.ensures.1 in
-    let long : length c.as-mut-slice.result.now ≡ length y = c.as-mut-slice.ensures.len ∙ c.in-ok-labels.ensures ∙ ap length c.tracks.ensures in
-    rw (p.1, p.2) (too_few y _ _ _ long c.in-err-label-tracks.ensures.0)
+    let p = err_from_is_err_and c.from_residual-in_err-label_tracks.result c.from_residual-in_err-label_tracks.ensures.1 in
+    let long : length c.as_mut_slice.result.now ≡ length y = c.as_mut_slice.ensures.len ∙ c.in_ok-labels.ensures ∙ ap length c.tracks.ensures in
+    rw (p.1, p.2) (too_few y _ _ _ long c.in_err-label_tracks.ensures.0)
 
 pub returns : goal.returns
 returns g c =
     let y = yard_tracks c.args.yard.now in
     let drawn : ℕ → g.row.K.Denot = λ i. g.K.Label.drawn (get_or c.args.words.now i 0) in
-    let a = c.in-ok-label-tracks.ensures in
-    let long = sym (c.label-tracks.auto.labels ∙ c.as-mut-slice.ensures.len) in
-    subst (Drew g.K.Label.group y drawn (length c.args.words.now)) (sym (taken_whole c.label-tracks.new.labels _ _ long)) (record { needed = c.in-ok-label-tracks.field-0; needed_are = a.1; enough = a.2; labelling = a.3 })
+    let a = c.in_ok-label_tracks.ensures in
+    let long = sym (c.label_tracks.auto.labels ∙ c.as_mut_slice.ensures.len) in
+    subst (Drew g.K.Label.group y drawn (length c.args.words.now)) (sym (taken_whole c.label_tracks.new.labels _ _ long)) (record { needed = c.in_ok-label_tracks.field-0; needed_are = a.1; enough = a.2; labelling = a.3 })

@@ -1,4 +1,4 @@
-use Rattle.std.proofs.Common.{◌≡◌, ◌<◌, length, vec_items, sym, ◌∙◌, arith}
+use Rattle.std.proofs.Common.{vec_items, ◌∙◌, arith}
 use Rattle.graph.proofs.Fronts.{blank, read}
 use Rattle.labels.proofs.Steps.{line_read, rows_more}
 use Rattle.labels.proofs.text.rows_text.Goals as goal
@@ -10,8 +10,8 @@ loop-number-preserved c =
     let ss = vec_items c.args.drawn.now.sums in
     let bs = vec_items c.args.drawn.now.pairs in
     let n = c.loop-number.number in
-    let x-each = c.requires.x-each in
+    let x_each = c.requires.x_each in
     let s_each = c.requires.s_each in
-    let b-each = c.requires.b-each in
+    let b_each = c.requires.b_each in
     let line = line_read ts xs ss bs n _ _ _ _ (read ts n blank c.loop-number-test.true) c.index.ensures c.index-in-loop-number.ensures c.index-in-loop-number-2.ensures (omega arith) (omega arith) (omega arith) in
-    rows_more ts xs ss bs n _ _ _ c.loop-number.invariant c.in-ok-push-str.ensures.bytes (c.as-str.ensures.value ∙ c.in-ok-line.ensures ∙ line)
+    rows_more ts xs ss bs n _ _ _ c.loop-number.invariant c.in_ok-push_str.ensures.bytes (c.as_str.ensures.value ∙ c.in_ok-line.ensures ∙ line)
