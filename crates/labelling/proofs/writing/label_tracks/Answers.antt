@@ -1,4 +1,4 @@
-use Rattle.std.proofs.Common.{ℕ, Bool, List, length, get_or, Decides, sym, ap, ◌∙◌, subst, arith}
+use Rattle.std.proofs.Common.{◌≤◌, ℕ, Bool, List, length, get_or, Decides, sym, ap, ◌∙◌, subst, arith}
 use Rattle.network.specs.declared.track.Track.{Track}
 use Rattle.graph.specs.Degrees.{flagged}
 use Rattle.graph.specs.Forests.{InForest, WordsNeeded}
@@ -29,9 +29,10 @@ returns g c =
     let told : (t : ℕ) → Decides (flagged c.of-leaves.result.left t) (InForest y t) = λ t. subst (λ (z : List Track). Decides (flagged c.of-leaves.result.left t) (InForest z t)) (sym e) (c.of-leaves.ensures.forest t) in
     let long = c.draw_chords.auto.labels ∙ c.if-labels-tracks.false in
     let known = chords_known G y drawn _ long c.draw_chords.ensures c.of-leaves.result.left told in
+    let enough : c.chord_count-needed.result ≤ length c.args.words.now = let le = c.if-words-needed.false in omega arith in
     let written = c.settle_forest.ensures (labelled G y drawn) (labelling_exists G y drawn).balanced known in (
       c.if-labels-tracks.false ∙ ap length e,
       subst (λ (z : List Track). WordsNeeded z c.chord_count-needed.result) e c.chord_count-needed.ensures,
-      c.if-words-needed.false,
+      enough,
       subst (λ (z : List Track). TheLabelling G z drawn c.chord_count-needed.result c.settle_forest.new.labels) e (the_labelling G y drawn _ _ c.chord_count-needed.ensures written),
     )
