@@ -10,15 +10,11 @@ use crate::xor::Xor;
 impl Label for Xor {
     const LETTER: u8 = b'X';
 
+    ghost LETTER = { 88 };
+
     ghost group = { xors };
 
     ghost drawn = { word_label };
-
-    ghost named = { 88 };
-
-    fn own_letter() -> u8 {
-        Self::LETTER
-    }
 
     fn zero() -> Self {
         Xor { bits: 0 }
@@ -46,15 +42,11 @@ impl Label for Xor {
 impl Label for Sum32 {
     const LETTER: u8 = b'S';
 
+    ghost LETTER = { 83 };
+
     ghost group = { sums };
 
     ghost drawn = { low_bits };
-
-    ghost named = { 83 };
-
-    fn own_letter() -> u8 {
-        Self::LETTER
-    }
 
     fn zero() -> Self {
         Sum32 { value: 0 }
@@ -86,16 +78,11 @@ impl Label for Sum32 {
 impl<A: Label, B: Label> Label for Both<A, B> {
     const LETTER: u8 = b'B';
 
+    ghost LETTER = { 66 };
+
     ghost group = { pairs A.Label.group B.Label.group };
 
     ghost drawn = { λ w. record { left = A.Label.drawn w; right = B.Label.drawn (rotated w) } };
-
-    ghost named = { 66 };
-
-    // a constant of a generic block has no known value, so the letter stands here once more
-    fn own_letter() -> u8 {
-        b'B'
-    }
 
     fn zero() -> Self {
         Both {

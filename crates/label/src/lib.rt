@@ -1,6 +1,6 @@
 // Labels of tracks: a commutative group into which words are drawn, and three kinds of it.
 //
-// Code over labels takes any `K: Label`, and is proved from the ghost members `group`, `drawn` and `named` alone.
+// Code over labels takes any `K: Label`, and is proved from the ghost members `group`, `drawn` and `LETTER` alone.
 #![tactic(auto)]
 
 ghost use Rattle.std.specs.Prelude.{◌≡◌, ℕ, Decides};
@@ -12,21 +12,16 @@ pub mod sum;
 pub mod xor;
 
 pub trait Label: Sized + Drop {
-    // the letter of the kind
+    // the letter of the kind, and the number that it is
     const LETTER: u8;
+
+    ghost LETTER: { ℕ };
 
     // zero, sum and opposite, with their laws
     ghost group: { Group Self };
 
     // the label that a word draws
     ghost drawn: { ℕ → Self };
-
-    // the letter, as a number
-    ghost named: { ℕ };
-
-    // The letter of the kind.
-    fn own_letter() -> u8
-        ensures { result ≡ named };
 
     fn zero() -> Self
         ensures { result ≡ group.zero };

@@ -10,11 +10,16 @@ ghost use Rattle.network.specs.Tracks.{Limits, track_at, ends_at, open_at, state
 ghost use Rattle.network.specs.declared.track.Refusal.{Refusal};
 ghost use Rattle.network.specs.declared.track.Track.{Track};
 
+pub mod stop;
 pub mod track;
 
+use std::array;
 use track::{Refusal, Track};
 
 pub const POINTS: usize = 512;
+
+// No network has more.
+pub const TRACKS: usize = 2048;
 
 pub trait Network {
     // what the network means: its tracks, in rising number
@@ -78,11 +83,7 @@ pub fn are_points(first: u16, second: u16) -> bool
 pub fn each_point() -> [u16; POINTS]
     ensures { result ≡ each_point }
 {
-    let mut points = [0; POINTS];
-    for point in 0..POINTS {
-        points[point] = point as u16;
-    }
-    points
+    array::from_fn(|point| point as u16)
 }
 
 // The answer to a call that is to shut, or else to reopen, a track that is there and is shut or open.

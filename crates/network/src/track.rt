@@ -1,11 +1,31 @@
 // One track of a network, and what is refused.
+ghost use Rattle.std.specs.Prelude.{◌≡◌};
 
-// A track joins two points, and is open or shut. Where both points are the same it is a loop.
+use std::error::Error;
+use std::fmt;
+
+// A track joins two points, and is open or shut. Where both points are the same it is a loop. Its layout is that of a C struct.
+#[repr(C)]
 #[derive(Clone, Copy, PartialEq, Eq, Debug)]
 pub struct Track {
     pub first: u16,
     pub second: u16,
     pub shut: bool,
+}
+
+impl Track {
+    ghost use Rattle.network.specs.Tracks.{open_track};
+
+    // An open track between two points.
+    pub fn open(first: u16, second: u16) -> Track
+        ensures { result ≡ open_track first second }
+    {
+        Track {
+            first,
+            second,
+            shut: false,
+        }
+    }
 }
 
 // Why a call is refused. Each refusal is known by its number.
@@ -26,3 +46,11 @@ pub enum Refusal {
     WrongNumber = 14,
     TooFewBytes = 15,
 }
+
+impl fmt::Display for Refusal {
+    fn fmt<W: fmt::Write>(&self, f: &mut fmt::Formatter<W>) -> fmt::Result {
+        write!(f, "refused with {}", *self as u8)
+    }
+}
+
+impl Error for Refusal {}
