@@ -3,8 +3,7 @@ ghost use Rattle.std.specs.Prelude.{◌≡◌, length, IfOk, vec_len, Decides, M
 ghost use Rattle.label.specs.Kinds.{xors, sums, pairs};
 ghost use Rattle.circulation.specs.Labels.{Balanced};
 ghost use Rattle.yard.specs.Meaning.{yard_tracks};
-ghost use Rattle.labels.specs.declared.drawing.Stop.TheVariants.{Refused, NoMemory};
-ghost use Rattle.labels.specs.Draws.{Drew, Stopped, Labels};
+ghost use Rattle.labels.specs.Draws.{Drew, TooFew, Labels, OneEach};
 
 use label::Label;
 use label::both::Both;
@@ -15,30 +14,7 @@ use network::track::Refusal;
 use std::alloc::{AllocError, Global};
 use yard::Yard;
 
-// Why there are no labels.
-#[derive(Drop)]
-pub enum Stop {
-    Refused(Refusal),
-    NoMemory,
-}
-
-impl From<Refusal> for Stop {
-    ghost from_gives = { λ e r. r ≡ Refused e };
-
-    fn from(refusal: Refusal) -> Stop {
-        Stop::Refused(refusal)
-    }
-}
-
-impl From<AllocError> for Stop {
-    ghost from_gives = { λ _ r. r ≡ NoMemory };
-
-    fn from(_error: AllocError) -> Stop {
-        Stop::NoMemory
-    }
-}
-
-// One label for each track, in the kinds X, S and B of X beside S.
+// One label for each track, in the kinds X, S and B of X beside S: a list for each kind, since labelling writes one kind at a time.
 #[derive(Drop)]
 pub struct Drawn {
     pub xors: Vec<Xor>,
@@ -46,35 +22,42 @@ pub struct Drawn {
     pub pairs: Vec<Both<Xor, Sum32>>,
 }
 
-// So many labels, all zero.
-fn zeros<K: Label>(heap: Global, count: usize) -> Result<Vec<K>, AllocError>
-    ensures { IfOk result (λ v. vec_len v ≡ count) }
+// A label for each track of a yard, all zero.
+fn zeros<K: Label>(heap: Global, yard: &Yard) -> Result<Vec<K>, AllocError>
+    ensures { IfOk result (λ v. vec_len v ≡ length (yard_tracks yard.now)) }
 {
-    let mut labels = Vec::new(heap);
-    for _number in 0..count {
-        labels.push(K::zero())?;
-    }
-    Ok(labels)
+    yard.tracks().iter().map(|_| K::zero()).collect(heap)
 }
 
-// The labels of one kind that words draw.
-fn draw<K: Label>(heap: Global, yard: &Yard, words: &[u64]) -> Result<Vec<K>, Stop>
-    ensures { MatchResult result (λ v. Drew K.group (yard_tracks yard.now) (λ i. K.drawn (slice_index words.now i)) (length words.now) v.items) (λ s. Stopped (yard_tracks yard.now) (length words.now) s) }
+// Draws the labels of one kind from words, or refuses with 8 where there are too few.
+fn draw<K: Label>(yard: &Yard, words: &[u64], labels: &mut Vec<K>) -> Result<(), Refusal>
+    requires { vec_len labels.old ≡ length (yard_tracks yard.now) }
+    ensures { MatchResult result (λ _. Drew K.group (yard_tracks yard.now) (λ i. K.drawn (slice_index words.now i)) (length words.now) labels.new.items) (λ r. TooFew (yard_tracks yard.now) (length words.now) r) }
 {
-    let mut labels = zeros(heap, yard.tracks().len())?;
     label_tracks(yard, words, labels.as_mut_slice())?;
-    Ok(labels)
+    Ok(())
 }
 
 impl Drawn {
-    // The labels of each kind that words draw, or 8 where there are too few.
-    pub fn of(heap: Global, yard: &Yard, words: &[u64]) -> Result<Drawn, Stop>
-        ensures { MatchResult result (λ d. Labels words.now (yard_tracks yard.now) d.xors.items d.sums.items d.pairs.items) (λ s. Stopped (yard_tracks yard.now) (length words.now) s) }
+    // Labels of each kind that are all zero.
+    pub fn zero(heap: Global, yard: &Yard) -> Result<Drawn, AllocError>
+        ensures { IfOk result (λ d. OneEach (yard_tracks yard.now) d.xors.items d.sums.items d.pairs.items) }
     {
-        let xors = draw(heap, yard, words)?;
-        let sums = draw(heap, yard, words)?;
-        let pairs = draw(heap, yard, words)?;
+        let xors = zeros(heap, yard)?;
+        let sums = zeros(heap, yard)?;
+        let pairs = zeros(heap, yard)?;
         Ok(Drawn { xors, sums, pairs })
+    }
+
+    // Draws the labels of each kind from words, or refuses with 8 where there are too few.
+    pub fn draw(&mut self, yard: &Yard, words: &[u64]) -> Result<(), Refusal>
+        requires { OneEach (yard_tracks yard.now) self.old.xors.items self.old.sums.items self.old.pairs.items }
+        ensures { MatchResult result (λ _. Labels words.now (yard_tracks yard.now) self.new.xors.items self.new.sums.items self.new.pairs.items) (λ r. TooFew (yard_tracks yard.now) (length words.now) r) }
+    {
+        draw(yard, words, &mut self.xors)?;
+        draw(yard, words, &mut self.sums)?;
+        draw(yard, words, &mut self.pairs)?;
+        Ok(())
     }
 
     // Whether the labels of each kind balance.

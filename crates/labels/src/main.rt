@@ -2,9 +2,9 @@
 // tracks, and prints them, or why it is refused.
 #![tactic(auto)]
 
-use listing::MOST_BYTES;
+use listing::read_input;
 use std::env;
-use std::io::Read;
+use std::rt::Env;
 
 mod drawing;
 mod text;
@@ -12,20 +12,16 @@ mod text;
 use text::printed_text;
 
 // The words, decimal numbers of 64 bits, one to an argument.
-fn words_given(rt: &HostRuntime) -> anyhow::Result<Vec<u64>> {
-    let mut words = Vec::new(rt.alloc());
-    for argument in env::args(rt)?.skip(1) {
-        words.push(argument.parse::<u64>()?)?;
-    }
-    Ok(words)
+fn words_given(rt: &(impl Env + AllocGlobal)) -> anyhow::Result<Vec<u64>> {
+    env::args(rt)?
+        .skip(1)
+        .map(|word| Ok(word.parse()?))
+        .try_collect(rt.alloc())
 }
 
-fn run(rt: &HostRuntime) -> anyhow::Result<()> {
+fn run(rt: &(impl Env + Input + Print + AllocGlobal)) -> anyhow::Result<()> {
     let words = words_given(rt)?;
-    let mut input = Vec::new(rt.alloc());
-    // one byte beyond the most tells that there are more
-    let most = MOST_BYTES as u64 + 1;
-    rt.stdin().take(most).read_to_end(&mut input)?;
+    let input = read_input(rt.alloc(), rt.reader())?;
     let text = printed_text(rt.alloc(), input.as_slice(), words.as_slice())?;
     print!(rt; "{text}")?;
     Ok(())

@@ -1,4 +1,4 @@
-use Rattle.std.proofs.Common.{vec_items, ◌∙◌}
+use Rattle.std.proofs.Common.{vec_items}
 use Rattle.labels.proofs.Steps.{all_written}
 use Rattle.labels.proofs.text.drawn_text.Goals as goal
 
@@ -8,14 +8,11 @@ returns c =
     let ss = vec_items c.args.drawn.now.sums in
     let bs = vec_items c.args.drawn.now.pairs in
     let l = c.requires in
+    let balanced = c.balance.ensures.1 (l.x.labelling.balanced, l.s.labelling.balanced, l.b.labelling.balanced) in
     record {
       xs = xs;
       ss = ss;
       bs = bs;
       labels = l;
-      written = all_written _ _ xs ss bs _ _ _ _ _ _ c.tracks-tracks.ensures
-          (c.balance-balanced.ensures.1 (l.x.labelling.balanced, l.s.labelling.balanced, l.b.labelling.balanced))
-          c.in_ok-text.ensures
-          (c.as_str.ensures.value ∙ c.in_ok-summary.ensures)
-          c.in_ok-push_str.ensures.bytes;
+      written = all_written _ _ _ xs ss bs _ _ c.tracks.ensures c.tracks-2.ensures c.balance_words-balance.ensures balanced c.in_ok-text.ensures c.in_ok-write.ensures.bytes;
     }
