@@ -51,14 +51,39 @@ impl Fan {
         Ok(())
     }
 
+    // How many tracks there are.
+    fn track_count(&self) -> usize
+        ensures { result ≡ road_tracks self.now.roads }
+    {
+        3 * self.roads - 2
+    }
+
+    // The two points of a track.
+    fn track_ends(&self, track: usize) -> (u16, u16)
+        requires { track < road_tracks self.now.roads }
+        ensures { result ≡ road_ends self.now.roads track }
+    {
+        let roads = self.roads;
+        if track < roads {
+            let k = track as u16;
+            (k, 256 + k)
+        } else if track < 2 * roads - 1 {
+            let k = (track - roads) as u16;
+            (k, k + 1)
+        } else {
+            let k = (track - (2 * roads - 1)) as u16;
+            (256 + k, 257 + k)
+        }
+    }
+
     // The track with a number, or None where there is no such track.
     fn record(&self, track: usize) -> Option<Track>
         ensures { result ≡ track_at (fan_tracks self.now) track }
     {
-        if track >= track_count(self.roads) {
+        if track >= self.track_count() {
             return None;
         }
-        let (first, second) = track_ends(self.roads, track);
+        let (first, second) = self.track_ends(track);
         let shut = self.shut[track];
         Some(Track {
             first,
@@ -76,31 +101,6 @@ impl Fan {
     }
 }
 
-// How many tracks a fan of so many roads has.
-fn track_count(roads: usize) -> usize
-    requires { Roads roads }
-    ensures { result ≡ road_tracks roads }
-{
-    3 * roads - 2
-}
-
-// The two points of a track of a fan.
-fn track_ends(roads: usize, track: usize) -> (u16, u16)
-    requires { (Roads roads) × (track < road_tracks roads) }
-    ensures { result ≡ road_ends roads track }
-{
-    if track < roads {
-        let k = track as u16;
-        (k, 256 + k)
-    } else if track < 2 * roads - 1 {
-        let k = (track - roads) as u16;
-        (k, k + 1)
-    } else {
-        let k = (track - (2 * roads - 1)) as u16;
-        (256 + k, 257 + k)
-    }
-}
-
 impl Network for Fan {
     ghost use Rattle.fan.specs.Fanned.{fan_tracks};
     ghost use Rattle.fan.specs.Fans.{limits_fanned};
@@ -110,7 +110,7 @@ impl Network for Fan {
     ghost limits = { λ n. limits_fanned _ _ n.sized };
 
     fn count(&self) -> usize {
-        track_count(self.roads)
+        self.track_count()
     }
 
     fn ends(&self, track: usize) -> Option<(u16, u16)> {
