@@ -1,5 +1,5 @@
 -- What is told of tracks that a caller gives: whether they make a yard, and the status of an answer. Assumes nothing.
-use Rattle.std.specs.Prelude.{ℕ, ◌<◌, ◌≤◌, List, length, Ok, Err, Result}
+use Rattle.std.specs.Prelude.{◌≡◌, ℕ, ◌<◌, ◌≤◌, List, length, Ok, Err, Result}
 use Rattle.network.specs.Refusals.{refusal_number}
 use Rattle.network.specs.Tracks.{Points, Limits}
 use Rattle.network.specs.declared.stop.Stop.{Stop}
@@ -33,3 +33,7 @@ abbrev pub status_of : {T : Type 0} → Result T Stop → ℕ
 status_of (Ok _) = 0
 status_of (Err (Refused why)) = refusal_number why
 status_of (Err NoMemory) = no_memory
+
+-- a status that tells an answer of which P holds
+abbrev pub Tells : (Result (Unit {0}) Stop → Type 0) → ℕ → Type 0
+Tells P status = (answer : Result (Unit {0}) Stop) × P answer × (status ≡ status_of answer)
