@@ -1,5 +1,5 @@
 // Sheets that are written, and sheets that do not fit.
-use network::track::Track;
+use network::track::{Refusal, Track};
 use sheet::mark::Mark;
 use sheet::record::Sheet;
 use std::alloc::Global;
@@ -10,23 +10,14 @@ use written::write_sheet;
 // What the bytes hold before each call.
 const BEFORE: u8 = 7;
 
-// An open track.
-fn track(first: u16, second: u16) -> Track {
-    Track {
-        first,
-        second,
-        shut: false,
-    }
-}
-
 // A triangle with a tail and a loop.
 fn triangle() -> [Track; 5] {
     [
-        track(0, 1),
-        track(1, 2),
-        track(2, 0),
-        track(2, 3),
-        track(3, 3),
+        Track::open(0, 1),
+        Track::open(1, 2),
+        Track::open(2, 0),
+        Track::open(2, 3),
+        Track::open(3, 3),
     ]
 }
 
@@ -53,14 +44,8 @@ fn check_text(
 ) -> Result<(), Fail> {
     bytes.fill(BEFORE);
     assert_eq!(rt; write_sheet(tracks, sheet, bytes)?, text.len());
-    for (place, byte) in bytes.iter().enumerate() {
-        let wanted = if place < text.len() {
-            text[place]
-        } else {
-            BEFORE
-        };
-        assert_eq!(rt; *byte, wanted);
-    }
+    assert!(rt; bytes.starts_with(text));
+    assert!(rt; bytes.iter().skip(text.len()).all(|byte| *byte == BEFORE));
     Ok(())
 }
 
@@ -72,13 +57,9 @@ fn check_refused(
     bytes: &mut [u8],
 ) -> Result<(), Fail> {
     bytes.fill(BEFORE);
-    match write_sheet(tracks, sheet, bytes) {
-        Ok(_) => return Err(Fail::new("written")),
-        Err(refusal) => assert_eq!(rt; refusal.number(), 15),
-    }
-    for byte in bytes.iter() {
-        assert_eq!(rt; *byte, BEFORE);
-    }
+    let refused = write_sheet(tracks, sheet, bytes).map_err(Refusal::number);
+    assert_eq!(rt; refused, Err(15));
+    assert!(rt; bytes.iter().all(|byte| *byte == BEFORE));
     Ok(())
 }
 
@@ -106,7 +87,7 @@ fn check_one_line(rt: &impl Abort, sheet: &Sheet) -> Result<(), Fail> {
     check_text(rt, &[], sheet, &mut [0; 50], header)?;
     check_text(
         rt,
-        &[track(65535, 9), track(0, 0)],
+        &[Track::open(65535, 9), Track::open(0, 0)],
         sheet,
         &mut [0; 60],
         line,
@@ -121,7 +102,7 @@ fn as_many_lines_as_the_shorter_list(rt: HostRuntime) -> Result<(), Fail> {
 
 // 2,048 tracks, of which the last is its own lead.
 fn check_many(rt: &impl Abort, sheet: &Sheet) -> Result<(), Fail> {
-    let tracks = [track(511, 511); 2048];
+    let tracks = [Track::open(511, 511); 2048];
     let mut bytes = [BEFORE; 41935];
     assert_eq!(rt; write_sheet(&tracks, sheet, &mut bytes)?, 41935);
     assert!(rt; bytes.ends_with(b"\r\n2047,512,512,alone,\r\n2048,512,512,mates,2048\r\n"));

@@ -1,11 +1,12 @@
 -- The digits of a number, one by one. Assumes nothing.
-use Rattle.std.proofs.Common.{◌≡◌, ℕ, ◌+◌, ◌/◌, ◌%◌, ◌<◌, ◌≤◌, List, [], ◌∷◌, ◌++◌, map, length, sym, refl, ap, ◌∙◌, arith}
+use Rattle.std.proofs.Common.{◌≡◌, ℕ, ◌+◌, ◌/◌, ◌%◌, ◌<◌, ◌≤◌, [], ◌∷◌, ◌++◌, map, length, sym, refl, ap, ◌∙◌, arith}
 use Rattle.std.specs.Int.Digits.{digits_of}
 use Rattle.std.proofs.lemmas.Int.Digits.{digits_of_step, length-digits_of-le}
 use Rattle.std.proofs.lemmas.List.{map_push, length-map, length_push}
 use Rattle.written.specs.Lines.{decimal}
-use Rattle.written.specs.Places.{Put}
-use Rattle.written.proofs.Putting.{put_none, put_then, put_as}
+use Rattle.written.specs.declared.page.Page.{Page}
+use Rattle.written.specs.Pages.{Puts}
+use Rattle.written.proofs.Putting.{puts_none, puts_then, puts_as}
 
 pub decimal_none : decimal 0 ≡ []
 unfolding decimal
@@ -16,29 +17,22 @@ pub decimal_step : (n : ℕ) → 0 < n → decimal n ≡ decimal (n / 10) ++ ((4
 unfolding decimal
 decimal_step n h = ap (map (λ d. 48 + d)) (digits_of_step 10 n (omega arith) h) ∙ map_push (λ d. 48 + d) (digits_of 10 (n / 10)) (n % 10)
 
--- below 100,000 there are at most five, and below 10,000 at most four
-length_decimal : (n : ℕ) → length (decimal n) ≡ length (digits_of 10 n)
-unfolding decimal
-length_decimal n = length-map (digits_of 10 n) (λ d. 48 + d)
-
+-- below 100,000 there are at most five
 pub decimal_short : (n : ℕ) → n < 100000 → length (decimal n) ≤ 5
-decimal_short n h = omega (arith, length_decimal n, length-digits_of-le 10 5 n (omega arith) h)
-
-pub decimal_shorter : (n : ℕ) → n < 10000 → length (decimal n) ≤ 4
-decimal_shorter n h = omega (arith, length_decimal n, length-digits_of-le 10 4 n (omega arith) h)
+unfolding decimal
+decimal_short n few = omega (arith, length-map (digits_of 10 n) (λ d. 48 + d), length-digits_of-le 10 5 n (omega arith) few)
 
 -- where a number is 0, nothing is put
-pub put_zero : (bs : List ℕ) (at n : ℕ) → n ≡ 0 → Put bs at (decimal n) bs at
-put_zero bs at n e = put_as (sym (ap decimal e ∙ decimal_none)) (put_none bs at)
+pub puts_zero : (p : Page) (n : ℕ) → n ≡ 0 → Puts p (decimal n) p
+puts_zero p n e = puts_as (sym (ap decimal e ∙ decimal_none)) (puts_none p)
 
 -- a tenth is put, and then the last digit
-pub put_digit : {bs : List ℕ} {at : ℕ} {mid : List ℕ} {next : ℕ} {after : List ℕ} {last : ℕ} (n : ℕ) → 0 < n → Put bs at (decimal (n / 10)) mid next → Put mid next ((48 + n % 10) ∷ []) after last → Put bs at (decimal n) after last
-put_digit n h one more = put_as (sym (decimal_step n h)) (put_then one more)
+pub puts_digit : {p q r : Page} (n : ℕ) → 0 < n → Puts p (decimal (n / 10)) q → Puts q ((48 + n % 10) ∷ []) r → Puts p (decimal n) r
+puts_digit n some one more = puts_as (sym (decimal_step n some)) (puts_then one more)
 
--- the place before the last digit
-pub digit_place : {bs : List ℕ} {at : ℕ} {mid : List ℕ} {next : ℕ} (n : ℕ) → 0 < n → n < 100000 → Put bs at (decimal (n / 10)) mid next → next < at + 5
-digit_place {bs} {at} {mid} {next} n h few one =
-    let long = length_push (decimal (n / 10)) (48 + n % 10) in
-    let same = ap length (decimal_step n h) in
-    let e = one.behind in
-    omega (arith, decimal_short n few)
+-- there is room for the last digit, and the number takes five places at most
+pub digit_room : {p q : Page} (n : ℕ) → 0 < n → n < 100000 → Puts p (decimal (n / 10)) q → q.at ≤ p.at + 4
+digit_room {p} {q} n some few one =
+    let behind = one.put.behind in
+    let long = ap length (decimal_step n some) in
+    omega (arith, decimal_short n few, length_push (decimal (n / 10)) (48 + n % 10))

@@ -1,7 +1,9 @@
--- Pieces put one behind another are one piece, and a piece at the front that fits. Assumes nothing.
+-- Texts put one behind another are one text, and a text at the front that fits. Assumes nothing.
 use Rattle.std.proofs.Common.{◌≡◌, ℕ, suc, ◌+◌, ◌≤◌, List, [], ◌∷◌, ◌++◌, length, drop, set, Ok, Err, Result, sym, refl, ap, ◌∙◌, subst, arith}
 use Rattle.std.proofs.lemmas.List.{append_assoc, length-append, length_push, set_at, set_past}
 use Rattle.std.proofs.lemmas.Bool.{cond_above}
+use Rattle.written.specs.declared.page.Page.{Page}
+use Rattle.written.specs.Pages.{Puts}
 use Rattle.written.specs.Places.{over, Put, write_answer, bytes_after}
 
 over_append : (bs : List ℕ) (at : ℕ) (p q : List ℕ) → over bs at (p ++ q) ≡ over (over bs at p) (at + length p) q
@@ -11,26 +13,37 @@ over_append bs at (x ∷ p) q =
     over_append (set bs at x) (suc at) p q ∙ ap (λ n. over (over (set bs at x) (suc at) p) n q) same
 
 -- nothing put
-pub put_none : (bs : List ℕ) (at : ℕ) → Put bs at [] bs at
-put_none bs at = record { behind = omega arith; held = refl }
+pub puts_none : (p : Page) → Puts p [] p
+puts_none p = record { put = record { behind = omega arith; held = refl }; same_bytes = refl }
 
--- one piece and then another
-pub put_then : {bs : List ℕ} {at : ℕ} {p mid : List ℕ} {next : ℕ} {q after : List ℕ} {last : ℕ} → Put bs at p mid next → Put mid next q after last → Put bs at (p ++ q) after last
-put_then {bs} {at} {p} {mid} {next} {q} {after} {last} one more = record {
-  behind = let long = length-append p q in let a = one.behind in let b = more.behind in omega arith;
-  held =
-      more.held
-      ∙ ap (λ m. over m next q) one.held
-      ∙ ap (λ n. over (over bs at p) n q) one.behind
-      ∙ sym (over_append bs at p q);
-}
+-- one text and then another
+pub puts_then : {p q r : Page} {first second : List ℕ} → Puts p first q → Puts q second r → Puts p (first ++ second) r
+puts_then {p} {q} {r} {first} {second} one more =
+    let a = one.put.behind in
+    let b = more.put.behind in
+    let long = length-append first second in
+    record {
+      put = record {
+        behind = omega arith;
+        held =
+            more.put.held
+            ∙ ap (λ m. over m q.at second) one.put.held
+            ∙ ap (λ n. over (over p.bytes.now p.at first) n second) a
+            ∙ sym (over_append p.bytes.now p.at first second);
+      };
+      same_bytes = more.same_bytes ∙ one.same_bytes;
+    }
+
+-- the same text under another name
+pub puts_as : {p q : Page} {text other : List ℕ} → text ≡ other → Puts p text q → Puts p other q
+puts_as {p} {q} e puts = subst (λ t. Puts p t q) e puts
 
 -- one byte, where the bytes reach so far and where they do not
-pub put_here : (bs : List ℕ) (at x : ℕ) (after : List ℕ) → after ≡ set bs at x → Put bs at (x ∷ []) after (at + 1)
-put_here bs at x after e = record { behind = refl; held = e }
+pub puts_here : (p q : Page) (x : ℕ) → q.at ≡ p.at → q.bytes.now ≡ set p.bytes.now p.at x → q.bytes.ghost_name ≡ p.bytes.ghost_name → Puts p (x ∷ []) (record { bytes = q.bytes; at = q.at + 1 })
+puts_here p q x at held name = record { put = record { behind = omega arith; held = held }; same_bytes = name }
 
-pub put_past : (bs : List ℕ) (at x : ℕ) (after : List ℕ) → length bs ≤ at → after ≡ bs → Put bs at (x ∷ []) after (at + 1)
-put_past bs at x after h e = record { behind = refl; held = e ∙ sym (set_past bs at x h) }
+pub puts_past : (p q : Page) (x : ℕ) → q ≡ p → length p.bytes.now ≤ p.at → Puts p (x ∷ []) (record { bytes = q.bytes; at = q.at + 1 })
+puts_past p q x e past = puts_here p q x (ap (λ (r : Page). r.at) e) (ap (λ (r : Page). r.bytes.now) e ∙ sym (set_past p.bytes.now p.at x past)) (ap (λ (r : Page). r.bytes.ghost_name) e)
 
 over_behind : (pre bs p : List ℕ) → length p ≤ length bs → over (pre ++ bs) (length pre) p ≡ pre ++ (p ++ drop (length p) bs)
 over_behind pre bs [] h = refl
@@ -46,10 +59,6 @@ over_behind pre (b ∷ bs) (x ∷ p) h =
 -- a piece at the front that fits: the bytes beyond it stay
 pub front_put : {bs p after : List ℕ} {next : ℕ} → Put bs 0 p after next → length p ≤ length bs → after ≡ p ++ drop (length p) bs
 front_put {bs} {p} put h = put.held ∙ over_behind [] bs p h
-
--- the place behind a piece that is no longer than n
-pub put_short : {bs : List ℕ} {at : ℕ} {p after : List ℕ} {next : ℕ} (n : ℕ) → Put bs at p after next → length p ≤ n → next ≤ at + n
-put_short n put h = let e = put.behind in omega arith
 
 -- the same piece under another name
 pub put_as : {bs : List ℕ} {at : ℕ} {p q after : List ℕ} {next : ℕ} → p ≡ q → Put bs at p after next → Put bs at q after next

@@ -9,9 +9,9 @@ pub returns : goal.returns
 returns c =
     let text = sheet_text c.args.tracks.now (sheet_marks c.args.sheet.now) in
     let same = ap (sheet_text c.args.tracks.now) c.marks-marks.ensures in
-    let counted = (put_as same c.put_sheet-length.ensures.put).behind in
+    let counted = (put_as same c.put_over-length.ensures.put).behind in
     let fits : length text ≤ length c.args.bytes.now = omega arith in
-    let put = put_as same c.put_sheet.ensures.put in
+    let put = put_as same c.put_over.ensures.put in
     record {
       value = answer_fits put fits;
       bytes = after_fits put fits;
