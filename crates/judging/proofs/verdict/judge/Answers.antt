@@ -65,5 +65,5 @@ returns g c =
     let done : c.rewrite.result ≡ true = c.rewrite.ensures.value.1 (omega arith, well) in (
       confirmed_accepted G (y g at) ks leads (balanced g at) low (led g at) confirmed,
       subst (MarksOf (y g at)) (sym (c.rewrite.ensures.marks ∙ cond-true _ _ _ done)) right,
-      c.rewrite.ensures.letter ∙ cond-true _ _ _ done ∙ c.own_letter.ensures,
+      c.rewrite.ensures.letter ∙ cond-true _ _ _ done ∙ c.LETTER.ensures,
     )
