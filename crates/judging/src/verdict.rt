@@ -32,6 +32,6 @@ pub fn judge<K: Label>(yard: &Yard, labels: &[K], sheet: &mut Sheet) -> Result<(
         return Err(Refusal::DrawAgain);
     }
     let marks = marks_of(tracks, &leads);
-    let _ = sheet.rewrite(K::LETTER, &marks[..tracks.len()]);
+    sheet.rewrite(K::LETTER, &marks[..tracks.len()]).unwrap();
     Ok(())
 }
