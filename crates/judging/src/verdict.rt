@@ -18,7 +18,7 @@ use yard::Yard;
 // marks of the yard. Else refuses, with 7 where there is not one label for each track, or with 9 where they do not balance, or
 // with 10, and leaves the sheet as it was.
 pub fn judge<K: Label>(yard: &Yard, labels: &[K], sheet: &mut Sheet) -> Result<(), Refusal>
-    ensures { JudgeAnswer K.group K.named (yard_tracks yard.now) labels.now sheet.old sheet.new (numbered result) }
+    ensures { JudgeAnswer K.group K.LETTER (yard_tracks yard.now) labels.now sheet.old sheet.new (numbered result) }
 {
     let tracks = yard.tracks();
     if labels.len() != tracks.len() {
@@ -32,6 +32,6 @@ pub fn judge<K: Label>(yard: &Yard, labels: &[K], sheet: &mut Sheet) -> Result<(
         return Err(Refusal::DrawAgain);
     }
     let marks = marks_of(tracks, &leads);
-    let _ = sheet.rewrite(K::own_letter(), &marks[..tracks.len()]);
+    sheet.rewrite(K::LETTER, &marks[..tracks.len()]).unwrap();
     Ok(())
 }
