@@ -44,13 +44,3 @@ returns-in_err-line c =
     let p = err_from_is_err_and c.from_residual.result c.from_residual.ensures.1 in
     let r = p.1 ∙ ap Err p.2 in
     record { value = r ∙ sym (ap answer_to whole); tracks = λ k. let z = sym k ∙ ap is_ok r in cc }
-
-pub returns : goal.returns
-returns c =
-    let ts = table_tracks c.loop-line.table in
-    let was = c.loop-line.reader in
-    let r = c.in_ok-line.was ∙ ap Ok c.in_default.is in
-    let read = sym (ap next_content r) ∙ c.next_line.ensures.value in
-    let whole = c.loop-line.invariant.0 ∙ ap (onto ts) (walk_end (lines (unread was)) was.place was.number read) ∙ ap (λ us. Ok (points_of was.place, us)) (append-nil ts) in
-    let same = c.next_line.ensures.place ∙ ap (λ x. place_after was.place (next_content x)) r in
-    record { value = ap Ok (c.points.ensures ∙ ap points_of same) ∙ sym (ap answer_to whole); tracks = λ _. sym (ap planned whole) }

@@ -8,16 +8,6 @@ use Rattle.plan.specs.Unread.{unread}
 use Rattle.plan.proofs.reader.Reader.take_line.Goals as goal
 use Rattle.plan.proofs.reader.Reader.take_line.Goals.{then-end-rest, else-end-rest}
 
-pub returns-then-self : goal.returns-then-self
-returns-then-self c =
-    let e : unread c.args.self.now ≡ [] = drop_all c.args.self.now.at c.args.self.now.bytes.now (omega arith) in
-    record {
-      value = sym (ap (λ l. first_of (lines l)) e);
-      unread = e ∙ sym (ap past_line e);
-      place = refl;
-      number = sym (ap (λ l. number_after (lines l) c.args.self.now.number) e);
-    }
-
 pub returns : goal.returns
 returns c =
     let l = c.args.self.now.bytes.now in
