@@ -1,15 +1,13 @@
 -- The turns of the loop of `lay_plan`, and its ways out. Assumes nothing.
 use Rattle.std.proofs.Common.{is_ok, Ok, Err, sym, ap, ◌∙◌}
-use Rattle.std.proofs.lemmas.List.{append-nil}
 use Rattle.std.proofs.lemmas.Result.{err_from_is_err_and}
 use Rattle.table.specs.Laying.{table_tracks}
 use Rattle.layout.specs.Contents.{content, next_content}
 use Rattle.layout.specs.Layout.{lines}
-use Rattle.layout.specs.Places.{points_of}
-use Rattle.layout.specs.Plans.{plan_of, onto, place_after, answer_to, planned}
+use Rattle.layout.specs.Plans.{plan_of, onto, place_after, answer_to}
 use Rattle.layout.proofs.Parts.{fewer_left}
 use Rattle.layout.proofs.Splits.{lines_rest}
-use Rattle.layout.proofs.Walks.{going_on, walk_end, walk_fault}
+use Rattle.layout.proofs.Walks.{going_on, walk_fault}
 use Rattle.plan.specs.Unread.{unread}
 use Rattle.plan.proofs.Laid.{line_laid}
 use Rattle.plan.proofs.lay_plan.Goals as goal

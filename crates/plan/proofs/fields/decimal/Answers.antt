@@ -1,10 +1,8 @@
 -- The steps of the loop of `decimal`. Assumes nothing.
-use Rattle.std.proofs.Common.{◌≤◌, length, get_or, Ok, sym, ◌∙◌, arith}
+use Rattle.std.proofs.Common.{length, sym, ◌∙◌, arith}
 use Rattle.std.proofs.lemmas.Result.{err_from_is_err_and}
-use Rattle.std.proofs.lemmas.List.{at_drop_all}
 use Rattle.std.proofs.lemmas.Bool.{eqb-false}
-use Rattle.layout.specs.Layout.{digits_after}
-use Rattle.layout.proofs.Decimals.{digits_more, digits_end, digit_small, digits_below, decimal_short}
+use Rattle.layout.proofs.Decimals.{digits_end, decimal_short}
 use Rattle.plan.proofs.fields.decimal.Goals as goal
 
 pub returns-in_err-value : goal.returns-in_err-value

@@ -1,10 +1,9 @@
 -- `take_line` takes the first line off the bytes that are left. Assumes nothing.
-use Rattle.std.proofs.Common.{◌≡◌, ℕ, ◌+◌, ◌-◌, ◌<◌, ◌≤◌, ◌⊎◌, List, [], length, take, drop, Some, sym, refl, ap, ◌∙◌, inl, inr, arith}
-use Rattle.std.proofs.lemmas.List.{take_rest, drop_all}
-use Rattle.layout.specs.Layout.{lines, first_of, past_line}
+use Rattle.std.proofs.Common.{◌≡◌, ℕ, ◌+◌, ◌-◌, ◌<◌, ◌≤◌, ◌⊎◌, List, length, take, drop, Some, sym, refl, ap, ◌∙◌, inl, inr, arith}
+use Rattle.std.proofs.lemmas.List.{take_rest}
+use Rattle.layout.specs.Layout.{first_of}
 use Rattle.layout.specs.Plans.{number_after}
 use Rattle.layout.proofs.Splits.{line_read}
-use Rattle.plan.specs.Unread.{unread}
 use Rattle.plan.proofs.reader.Reader.take_line.Goals as goal
 use Rattle.plan.proofs.reader.Reader.take_line.Goals.{then-end-rest, else-end-rest}
 
