@@ -1,5 +1,5 @@
 -- A network's tracks as text: CSV with a header, and a line that counts them. Assumes nothing.
-use Rattle.std.specs.Prelude.{◌≡◌, ℕ, ◌+◌, Bool, false, cond, List, [], ◌∷◌, ◌++◌, length, Some, None, codes, decimal, Option, ◌==◌}
+use Rattle.std.specs.Prelude.{◌≡◌, ℕ, ◌+◌, Bool, cond, List, [], ◌∷◌, ◌++◌, length, count_by, codes, decimal, ◌==◌}
 use Rattle.network.specs.declared.track.Track.{Track}
 use Rattle.graph.specs.Forests.{WordsNeeded}
 use Rattle.graph.specs.Groups.{GroupCount}
@@ -22,6 +22,10 @@ state_word shut = cond shut (codes "shut") (codes "open")
 abbrev pub row : ℕ → Track → List ℕ
 row k t = csv_line (decimal (k + 1) ∷ decimal (t.first + 1) ∷ decimal (t.second + 1) ∷ state_word t.shut ∷ [])
 
+-- the fields of a track at the front of its line: its number, as it is printed, its points and its state
+abbrev pub fields_text : ℕ → Track → List ℕ
+fields_text number t = decimal number ++ (44 ∷ (decimal (t.first + 1) ++ (44 ∷ (decimal (t.second + 1) ++ (44 ∷ state_word t.shut)))))
+
 -- the lines of tracks, of which the first has the number k
 abbrev pub rows : ℕ → List Track → List ℕ
 rows k [] = []
@@ -29,18 +33,7 @@ rows k (t ∷ ts) = row k t ++ rows (k + 1) ts
 
 -- how many of the tracks are loops
 abbrev pub loop_count : List Track → ℕ
-loop_count [] = 0
-loop_count (t ∷ ts) = cond (t.first == t.second) 1 0 + loop_count ts
-
--- one line, or none where the track is absent
-abbrev pub row_of : ℕ → Option Track → List ℕ
-row_of k None = []
-row_of k (Some t) = row k t
-
--- whether a track is there and is a loop
-abbrev pub loop_of : Option Track → Bool
-loop_of None = false
-loop_of (Some t) = t.first == t.second
+loop_count ts = count_by (λ t. t.first == t.second) ts
 
 -- the last line: read a plan: tracks T, points P, loops L, groups G, words W
 abbrev pub summary_line : ℕ → ℕ → ℕ → ℕ → ℕ → List ℕ

@@ -1,14 +1,10 @@
 // Reads a plan from standard input and prints its track table, or why it is refused.
 #![tactic(auto)]
 
-use listing::{MOST_BYTES, printed_text};
-use std::io::Read;
+use listing::{printed_text, read_input};
 
-fn run(rt: &HostRuntime) -> anyhow::Result<()> {
-    let mut input = Vec::new(rt.alloc());
-    // one byte beyond the most tells that there are more
-    let most = MOST_BYTES as u64 + 1;
-    rt.stdin().take(most).read_to_end(&mut input)?;
+fn run(rt: &(impl Input + Print + AllocGlobal)) -> anyhow::Result<()> {
+    let input = read_input(rt.alloc(), rt.reader())?;
     let text = printed_text(rt.alloc(), input.as_slice())?;
     print!(rt; "{text}")?;
     Ok(())

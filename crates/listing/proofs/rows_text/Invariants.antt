@@ -1,9 +1,7 @@
-use Rattle.std.proofs.Common.{◌≡◌, ◌+◌, ◌≤◌, ◌++◌, drop, string_bytes}
-use Rattle.listing.specs.Rows.{header, rows, loop_count}
+use Rattle.std.proofs.Common.{◌≡◌, ◌++◌, drop, string_bytes}
+use Rattle.listing.specs.Rows.{header, rows}
 use Rattle.listing.proofs.rows_text.Given as goal
 
+-- the lines before the track with this number are written
 abbrev pub invariant-loop-number : goal.invariant-loop-number
-invariant-loop-number g l =
-    (l.loops ≤ l.number)
-    × (l.loops + loop_count (drop l.number (g.N.Network.tracks l.network)) ≡ loop_count (g.N.Network.tracks l.network))
-    × (string_bytes l.text ++ rows l.number (drop l.number (g.N.Network.tracks l.network)) ≡ header ++ rows 0 (g.N.Network.tracks l.network))
+invariant-loop-number l = string_bytes l.text ++ rows l.number (drop l.number l.tracks) ≡ header ++ rows 0 l.tracks
