@@ -4,9 +4,7 @@ ghost use Rattle.network.specs.Refusals.{numbered};
 ghost use Rattle.yard.specs.Meaning.{yard_tracks};
 ghost use Rattle.judging.specs.Judged.{JudgeAnswer};
 
-use crate::leads::leads_of;
-use crate::marks::marks_of;
-use crate::rounds::are_confirmed;
+use crate::leads::Leads;
 use label::Label;
 use labelling::balances;
 use network::track::Refusal;
@@ -27,11 +25,11 @@ pub fn judge<K: Label>(yard: &Yard, labels: &[K], sheet: &mut Sheet) -> Result<(
     if !balances(yard, labels) {
         return Err(Refusal::Unbalanced);
     }
-    let leads = leads_of(labels);
-    if !are_confirmed(yard, &leads) {
+    let leads = Leads::of(labels);
+    if !leads.are_confirmed(yard) {
         return Err(Refusal::DrawAgain);
     }
-    let marks = marks_of(tracks, &leads);
+    let marks = leads.marks(tracks);
     sheet.rewrite(K::LETTER, &marks[..tracks.len()]).unwrap();
     Ok(())
 }
