@@ -18,7 +18,7 @@ use layout::line::{Line, Place};
 #[derive(Drop)]
 pub struct Reader<'a> {
     bytes: &'a [u8],
-    // where the next line begins
+    // where the next line begins, which bounds its number
     at: usize,
     // the number of the next line, from 1
     number: usize,
