@@ -82,7 +82,7 @@ def point_3():
     "loops whose counter only indexes, and searches or prefixes by hand"
     for f in FILES:
         for n, line in enumerate(CODE[f]):
-            m = re.match(r'\s*for (\w+) in [^{]*\.\.', line)
+            m = re.match(r'\s*for (\w+) in [^{&]*\.\.', line)
             if m and re.search(r'\[\*?' + m.group(1) + r'( as usize)?\]|(record|is_led)\w*\([^)]*\b' + m.group(1) + r'\b', body(f, n)):
                 yield f'{f}:{n + 1}: {line.strip()}'
             if re.match(r'\s*while .* < ', line):
@@ -94,7 +94,7 @@ def point_3():
 
 def point_4():
     "equality, copying, conversion and printing by hand, by the names of such functions"
-    yield from lines(r'fn (same|alike|is_lead|is_single|is_comment|copy_marks|digit|number|number_of|status_of|state_word|mark_word|balance_words|row|track_fields|label_fields|[a-z]+_text|too_few_text|put_number)\b')
+    yield from lines(r'fn (same\(&self, _?other|number\((self|answer)|(alike|is_lead|is_single|is_comment|copy_marks|digit|number_of|status_of|state_word|mark_word|balance_words|row|push_row|track_fields|label_fields|[a-z]+_text|too_few_text|put_number)\b)', without='check_text')
     yield from lines(r'^impl.* From<.*for (Fault|Stop) ')
     yield from lines(r'Ok\((\w+)\) => Ok\(\1\)')
 
@@ -122,17 +122,19 @@ def point_5():
 
 
 def point_6():
-    "arrays and lists in structs, and places kept beside a list"
+    "structs with two lists, or with a list and a number beside it, and functions over bytes with a place beside them"
     for f in FILES:
         for m in re.finditer(r'struct (\w+)[^{;]*\{(.*?)\n\}', '\n'.join(CODE[f]), re.S):
-            for field in re.findall(r'(\w+): (\[[^\]]*\]|Vec<[^\n]*>|&[^\n]*\[[^\]]*\]),', m.group(2)):
-                yield f'{f}: struct {m.group(1)}: {field[0]}: {field[1]}'
-    yield from lines(r'fn put_\w+\(bytes: &mut \[u8\], at: usize|^    at: usize,')
+            lists = re.findall(r'(\w+): (?:\[[^\]]*\]|Vec<[^\n]*>|&[^\n]*\[[^\]]*\]),', m.group(2))
+            numbers = re.findall(r'(\w+): usize,', m.group(2))
+            if lists and len(lists) + len(numbers) > 1:
+                yield f'{f}: struct {m.group(1)}: {", ".join(lists + numbers)}'
+    yield from lines(r'fn put_\w+\(bytes: &mut \[u8\], at: usize|^    at: usize,$', where=lambda f: 'reader' not in f)
 
 
 def point_7():
     "parameters and branches that say which step to run"
-    yield from lines(r'fn .*\b(shut|second|wanted): bool|if second')
+    yield from lines(r'fn (set|put)_.*\bshut: bool|second: bool|if second')
     yield from (line for line in lines(r'fn sum_(words|groups)'))
 
 
