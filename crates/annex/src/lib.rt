@@ -10,13 +10,12 @@ ghost use Rattle.annex.specs.Annexed.{annexed, annexed_after, add_answer, add_af
 ghost use Rattle.annex.specs.Joins.{limits_annexed};
 
 use network::track::{Refusal, Track};
-use network::{Network, are_points, change};
+use network::{Network, TRACKS, are_points, change};
 use std::alloc::{AllocFailed, Global};
-
-const MOST: usize = 2048;
 
 const MOST_OWN: usize = 64;
 
+// Contracts name its two parts, since the tracks below are the meaning of `below`, which is of any type.
 #[derive(Drop)]
 pub struct Annex<N> {
     below: N,
@@ -57,14 +56,10 @@ impl<N: Network> Annex<N> {
         if !are_points(first, second) {
             return Err(Refusal::NoSuchPoint);
         }
-        if self.own.len() >= MOST_OWN || self.count() >= MOST {
+        if self.own.len() >= MOST_OWN || self.count() >= TRACKS {
             return Err(Refusal::Full);
         }
-        self.own.push_reserved(Track {
-            first,
-            second,
-            shut: false,
-        });
+        self.own.push_reserved(Track::open(first, second));
         Ok(())
     }
 
@@ -73,7 +68,7 @@ impl<N: Network> Annex<N> {
         requires { below ≤ 2048 }
         ensures { result ≡ min (vec_len self.now.own) (2048 - below) }
     {
-        self.own.len().min(MOST - below)
+        self.own.len().min(TRACKS - below)
     }
 
     // The own track with a number above those below, or None where it is not shown.
@@ -82,11 +77,8 @@ impl<N: Network> Annex<N> {
         ensures { result ≡ track_at (annexed (N.tracks self.now.below) self.now.own.items) track }
     {
         let below = self.below.count();
-        let place = track - below;
-        if place >= self.shown(below) {
-            return None;
-        }
-        Some(self.own[place])
+        let shown = self.shown(below);
+        self.own.as_slice()[..shown].get(track - below).copied()
     }
 
     // Shuts or reopens the own track at a place among the first `shown`, or refuses and changes nothing.
@@ -127,10 +119,7 @@ impl<N: Network> Network for Annex<N> {
         if track < self.below.count() {
             return self.below.is_open(track);
         }
-        match self.own_at(track) {
-            Some(own) => !own.shut,
-            None => false,
-        }
+        self.own_at(track).is_some_and(|own| !own.shut)
     }
 
     fn set_state(&mut self, track: usize, shut: bool) -> Result<(), Refusal> {

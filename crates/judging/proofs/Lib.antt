@@ -1,6 +1,5 @@
-mod Leading
-mod Rounded
-mod Confirming
 mod Acceptance
+mod Confirming
+mod Filling
 mod Marking
 mod Sheeted

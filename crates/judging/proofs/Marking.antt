@@ -1,6 +1,6 @@
 -- Counting leads, and giving marks, one track more. Assumes nothing.
-use Rattle.std.proofs.Common.{◌≡◌, ℕ, ◌+◌, ◌<◌, ◌≤◌, List, length, get_or, set, sym, ap, ◌∙◌, subst, ⊎_elim, arith}
-use Rattle.std.proofs.lemmas.List.{get_or-set_same, get_or-set_other, get_or_past}
+use Rattle.std.proofs.Common.{◌≡◌, ℕ, ◌+◌, ◌<◌, ◌≤◌, List, length, Option, Some, None, get_or, set, sym, ap, ◌∙◌, subst, ⊎_elim, arith}
+use Rattle.std.proofs.lemmas.List.{get_or-set_same, get_or-set_other}
 use Rattle.std.proofs.lemmas.Bool.{cases_eq}
 use Rattle.network.specs.declared.track.Track.{Track}
 use Rattle.graph.specs.Counts.{Count}
@@ -10,29 +10,29 @@ use Rattle.sheet.specs.declared.mark.Mark.{Mark}
 use Rattle.sheet.specs.declared.mark.Mark.TheVariants.{Shut}
 use Rattle.sheet.specs.Marks.{mark_at}
 use Rattle.judging.specs.Leads.{lead}
-use Rattle.judging.specs.Marking.{mark_by, Sized, MarkedAt, Marked}
+use Rattle.judging.specs.Marking.{mark_by, Sized, size_of, MarkedAt, Marked}
 
-module _ (leads sizes : List ℕ) (n : ℕ) (d : Sized leads sizes n) where
+module _ (leads : List (Option ℕ)) (sizes : List ℕ) (n : ℕ) (d : Sized leads sizes n) where
   pub size_le : (l : ℕ) → l < 2048 → get_or sizes l 0 ≤ n
   size_le l h = count_le (d l h)
 
   -- a track with no lead
-  pub size_same : 2048 ≤ lead leads n → Sized leads sizes (n + 1)
-  size_same none l h = none_more (λ t. lead leads t ≡ l) n (get_or sizes l 0) (d l h) (λ e. omega arith)
+  pub size_same : lead leads n ≡ None → Sized leads sizes (n + 1)
+  size_same none l h = none_more (λ t. lead leads t ≡ Some l) n (get_or sizes l 0) (d l h) (λ e. let w = sym none ∙ e in cc)
 
   -- a track with a lead
-  pub size_more : (l : ℕ) → lead leads n ≡ l → l < length sizes → Sized leads (set sizes l (get_or sizes l 0 + 1)) (n + 1)
+  pub size_more : (l : ℕ) → lead leads n ≡ Some l → l < length sizes → Sized leads (set sizes l (get_or sizes l 0 + 1)) (n + 1)
   size_more l is room k h =
       ⊎_elim
       (λ same.
-      subst (Count (λ t. lead leads t ≡ k) (n + 1)) (sym (ap (λ j. get_or (set sizes l (get_or sizes l 0 + 1)) j 0) same ∙ get_or-set_same sizes l (get_or sizes l 0 + 1) 0 room ∙ ap (λ j. get_or sizes j 0 + 1) (sym same)))
-      (one_more (λ t. lead leads t ≡ k) n (get_or sizes k 0) (d k h) (is ∙ sym same)))
+      subst (Count (λ t. lead leads t ≡ Some k) (n + 1)) (sym (ap (λ j. get_or (set sizes l (get_or sizes l 0 + 1)) j 0) same ∙ get_or-set_same sizes l (get_or sizes l 0 + 1) 0 room ∙ ap (λ j. get_or sizes j 0 + 1) (sym same)))
+      (one_more (λ t. lead leads t ≡ Some k) n (get_or sizes k 0) (d k h) (is ∙ ap Some (sym same))))
       (λ ne.
-      subst (Count (λ t. lead leads t ≡ k) (n + 1)) (sym (get_or-set_other sizes l k (get_or sizes l 0 + 1) 0 ne))
-      (none_more (λ t. lead leads t ≡ k) n (get_or sizes k 0) (d k h) (λ e. ne (sym e ∙ is))))
+      subst (Count (λ t. lead leads t ≡ Some k) (n + 1)) (sym (get_or-set_other sizes l k (get_or sizes l 0 + 1) 0 ne))
+      (none_more (λ t. lead leads t ≡ Some k) n (get_or sizes k 0) (d k h) (λ e. ne (let w = sym e ∙ is in cc))))
       (cases_eq k l)
 
-module _ (y : List Track) (leads : List ℕ) (ms : List Mark) (n : ℕ) (d : Marked y leads ms n) (room : n < length ms) (m : Mark) where
+module _ (y : List Track) (leads : List (Option ℕ)) (ms : List Mark) (n : ℕ) (d : Marked y leads ms n) (room : n < length ms) (m : Mark) where
   abbrev new : List Mark
   new = set ms n m
 
@@ -43,15 +43,15 @@ module _ (y : List Track) (leads : List ℕ) (ms : List Mark) (n : ℕ) (d : Mar
       (λ ne.
       let old = d t (omega (arith, ne)) in
       let at : mark_at new t ≡ mark_at ms t = get_or-set_other ms n t m Shut ne in
-      record { led = λ s l c. at ∙ old.led s l c; free = λ e. at ∙ old.free e })
+      record { led = λ l s e c. at ∙ old.led l s e c; free = λ e. at ∙ old.free e })
       (cases_eq t n)
 
   -- the mark of the code: its lead as it is read, and the count of that lead
-  pub marked_own : (sizes : List ℕ) → Sized leads sizes (length y) → length sizes ≡ 2048 → m ≡ mark_by (track y n).shut (lead leads n) (get_or sizes (lead leads n) 0) → MarkedAt y leads new n
-  marked_own sizes s whole is = record {
-    led = λ k l c. at ∙ ap (mark_by (track y n).shut (lead leads n)) (count_same (s (lead leads n) l) c);
-    free = λ e. at ∙ ap (λ l. mark_by (track y n).shut l (get_or sizes l 0)) e ∙ ap (mark_by (track y n).shut 2048) (get_or_past sizes 2048 0 (omega arith));
+  pub marked_own : (sizes : List ℕ) → Sized leads sizes (length y) → ((l : ℕ) → lead leads n ≡ Some l → l < 2048) → m ≡ mark_by (track y n).shut (lead leads n) (size_of sizes (lead leads n)) → MarkedAt y leads new n
+  marked_own sizes s low is = record {
+    led = λ l k e c. at ∙ ap (λ o. mark_by (track y n).shut o (size_of sizes o)) e ∙ ap (mark_by (track y n).shut (Some l)) (count_same (s l (low l e)) c);
+    free = λ e. at ∙ ap (λ o. mark_by (track y n).shut o (size_of sizes o)) e;
   }
     where
-      at : mark_at new n ≡ mark_by (track y n).shut (lead leads n) (get_or sizes (lead leads n) 0)
+      at : mark_at new n ≡ mark_by (track y n).shut (lead leads n) (size_of sizes (lead leads n))
       at = get_or-set_same ms n m Shut room ∙ is

@@ -1,46 +1,43 @@
 // Tracks grouped by equal or opposite labels.
-ghost use Rattle.std.specs.Prelude.{◌≡◌, ◌<◌, ◌≤◌, length, Decides};
-ghost use Rattle.judging.specs.Accepting.{Alike};
-ghost use Rattle.judging.specs.Leads.{LedBy, Leads};
+ghost use Rattle.std.specs.Prelude.{◌≡◌, ℕ, ◌≤◌, length};
+ghost use Rattle.judging.specs.Leads.{LeadOf, LeadsOf, Low};
 
 use label::Label;
+use network::TRACKS;
+use std::array;
 
-pub(crate) const TRACKS: usize = 2048;
-
-// Whether two labels are equal or opposite; the opposite of the second is given.
-fn are_alike<K: Label>(a: &K, b: &K, opposite: &K) -> bool
-    requires { opposite.now ≡ K.group.opposite b.now }
-    ensures { Decides result (Alike K.group a.now b.now) }
-{
-    a.same(b) || a.same(opposite)
+// For each track its lead, the lowest track with an equal or opposite label; none where it carries zero.
+#[derive(Clone, Copy)]
+pub(crate) struct Leads {
+    pub(crate) leads: [Option<u16>; TRACKS],
+    ghost long: { length leads ≡ 2048 },
+    ghost low: { Low leads },
 }
 
-// The lowest track with a label equal or opposite to that of a track.
-fn lead_of<K: Label>(labels: &[K], number: usize) -> usize
-    requires { number < length labels.now }
-    ensures { LedBy K.group labels.now number result }
-{
-    let opposite = labels[number].opposite();
-    for other in 0..number {
-        if are_alike(&labels[other], &labels[number], &opposite) {
-            return other;
-        }
-    }
-    number
-}
-
-// The lead of each track that carries another label than zero; 2,048 stands for none.
-pub(crate) fn leads_of<K: Label>(labels: &[K]) -> [u16; TRACKS]
+// The lead of a track, or none where it is absent.
+fn lead_of<K: Label>(labels: &[K], number: usize) -> Option<u16>
     requires { length labels.now ≤ 2048 }
-    ensures long { length result ≡ 2048 }
-    ensures leads { Leads K.group labels.now result (length labels.now) }
+    ensures { LeadOf K.group labels.now number result }
 {
-    let zero = K::zero();
-    let mut leads = [2048; TRACKS];
-    for number in 0..labels.len() {
-        if !labels[number].same(&zero) {
-            leads[number] = lead_of(labels, number) as u16;
+    let own = labels.get(number)?;
+    if own.same(&K::zero()) {
+        return None;
+    }
+    let opposite = own.opposite();
+    let lead = labels[..number]
+        .iter()
+        .position(|other| other.same(own) || other.same(&opposite));
+    Some(lead.unwrap_or(number) as u16)
+}
+
+impl Leads {
+    // The leads of tracks with these labels.
+    pub(crate) fn of<K: Label>(labels: &[K]) -> Leads
+        requires { length labels.now ≤ 2048 }
+        ensures { LeadsOf K.group labels.now result.leads }
+    {
+        Leads {
+            leads: array::from_fn(|number| lead_of(labels, number)),
         }
     }
-    leads
 }

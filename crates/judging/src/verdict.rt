@@ -4,9 +4,7 @@ ghost use Rattle.network.specs.Refusals.{numbered};
 ghost use Rattle.yard.specs.Meaning.{yard_tracks};
 ghost use Rattle.judging.specs.Judged.{JudgeAnswer};
 
-use crate::leads::leads_of;
-use crate::marks::marks_of;
-use crate::rounds::are_confirmed;
+use crate::leads::Leads;
 use label::Label;
 use labelling::balances;
 use network::track::Refusal;
@@ -18,7 +16,7 @@ use yard::Yard;
 // marks of the yard. Else refuses, with 7 where there is not one label for each track, or with 9 where they do not balance, or
 // with 10, and leaves the sheet as it was.
 pub fn judge<K: Label>(yard: &Yard, labels: &[K], sheet: &mut Sheet) -> Result<(), Refusal>
-    ensures { JudgeAnswer K.group K.named (yard_tracks yard.now) labels.now sheet.old sheet.new (numbered result) }
+    ensures { JudgeAnswer K.group K.LETTER (yard_tracks yard.now) labels.now sheet.old sheet.new (numbered result) }
 {
     let tracks = yard.tracks();
     if labels.len() != tracks.len() {
@@ -27,11 +25,11 @@ pub fn judge<K: Label>(yard: &Yard, labels: &[K], sheet: &mut Sheet) -> Result<(
     if !balances(yard, labels) {
         return Err(Refusal::Unbalanced);
     }
-    let leads = leads_of(labels);
-    if !are_confirmed(yard, &leads) {
+    let leads = Leads::of(labels);
+    if !leads.are_confirmed(yard) {
         return Err(Refusal::DrawAgain);
     }
-    let marks = marks_of(tracks, &leads);
-    let _ = sheet.rewrite(K::own_letter(), &marks[..tracks.len()]);
+    let marks = leads.marks(tracks);
+    sheet.rewrite(K::LETTER, &marks[..tracks.len()]).unwrap();
     Ok(())
 }

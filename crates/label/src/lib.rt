@@ -7,7 +7,6 @@ ghost use Rattle.std.specs.Prelude.{◌≡◌, ℕ, Decides};
 ghost use Rattle.label.specs.Groups.{Group};
 
 pub mod both;
-mod kinds;
 pub mod sum;
 pub mod xor;
 
@@ -32,7 +31,7 @@ pub trait Label: Sized + Drop {
     fn opposite(&self) -> Self
         ensures { result ≡ group.opposite self.now };
 
-    // Whether two labels are equal.
+    // Whether two labels are equal. `PartialEq` would promise generic code no more than an equivalence.
     fn same(&self, other: &Self) -> bool
         ensures { Decides result (self.now ≡ other.now) };
 

@@ -6,55 +6,17 @@ ghost use Rattle.annex.specs.Annexed.{annexed};
 ghost use Rattle.tied.specs.Standing.{tied};
 ghost use Rattle.network.specs.Refusals.{numbered};
 ghost use Rattle.network.specs.Tracks.{open_track, state_answer, state_after};
-ghost use Rattle.layers.specs.declared.Fault.TheVariants.{Memory, Answered};
 ghost use Rattle.layers.specs.Counts.{open_count};
 ghost use Rattle.layers.specs.Piles.{pile_tracks};
 
 use annex::Annex;
 use fan::Fan;
 use network::Network;
+use network::stop::Stop;
 use network::track::Refusal;
-use std::alloc::{AllocError, AllocFailed, Global};
-use std::io;
+use std::alloc::Global;
 use table::Table;
 use tied::Tied;
-
-#[derive(Debug, Drop)]
-enum Fault {
-    Memory,
-    Answered(Refusal),
-    Io,
-}
-
-impl From<AllocError> for Fault {
-    ghost from_gives = { λ _ r. r ≡ Memory };
-
-    fn from(_e: AllocError) -> Fault {
-        Fault::Memory
-    }
-}
-
-impl<T: Drop> From<AllocFailed<T>> for Fault {
-    ghost from_gives = { λ _ r. r ≡ Memory };
-
-    fn from(_e: AllocFailed<T>) -> Fault {
-        Fault::Memory
-    }
-}
-
-impl From<Refusal> for Fault {
-    ghost from_gives = { λ e r. r ≡ Answered e };
-
-    fn from(e: Refusal) -> Fault {
-        Fault::Answered(e)
-    }
-}
-
-impl From<io::Error> for Fault {
-    fn from(_e: io::Error) -> Fault {
-        Fault::Io
-    }
-}
 
 // How many tracks of any network are open.
 fn open_count<N: Network>(network: &N) -> usize
@@ -102,7 +64,7 @@ fn open_in_pile(pile: &Annex<Tied<Table>>) -> usize
 }
 
 // Two tracks in a table, with 7 standing for the point 1, and a third track above.
-fn build(heap: Global) -> Result<Annex<Tied<Table>>, Fault>
+fn build(heap: Global) -> Result<Annex<Tied<Table>>, Stop>
     ensures { IfOk result (λ p. pile_tracks p ≡ open_track 0 7 ∷ open_track 7 2 ∷ open_track 1 6 ∷ []) }
 {
     let mut table = Table::new(heap)?;
@@ -116,7 +78,7 @@ fn build(heap: Global) -> Result<Annex<Tied<Table>>, Fault>
 }
 
 // Two layers of one kind over a fan.
-fn tower(heap: Global) -> Result<usize, Fault>
+fn tower(heap: Global) -> Result<usize, Stop>
     ensures { IfOk result (λ n. n ≡ 8) }
 {
     let mut fan = Fan::new();
@@ -127,29 +89,17 @@ fn tower(heap: Global) -> Result<usize, Fault>
     Ok(high.count())
 }
 
-// The number of a refusal, or 0 for an accepted call.
-fn number(answer: Result<(), Refusal>) -> u8 {
+// Tells the answer to the shutting of a track.
+fn tell_shutting(rt: &impl Print, track: usize, answer: Result<(), Refusal>) -> anyhow::Result<()> {
     match answer {
-        Ok(()) => 0,
-        Err(refusal) => refusal.number(),
-    }
-}
-
-// Shuts a track and tells the answer.
-fn tell_shutting(
-    rt: &HostRuntime,
-    pile: &mut Annex<Tied<Table>>,
-    track: usize,
-) -> Result<(), Fault> {
-    match number(pile.shut(track)) {
-        0 => println!(rt; "shut track {track}: accepted")?,
-        refusal => println!(rt; "shut track {track}: refused with {refusal}")?,
+        Ok(()) => println!(rt; "shut track {track}: accepted")?,
+        Err(refusal) => println!(rt; "shut track {track}: {refusal}")?,
     }
     Ok(())
 }
 
 // Tells the tracks of the pile, and how many are open.
-fn tell_tracks(rt: &HostRuntime, pile: &Annex<Tied<Table>>) -> Result<(), Fault> {
+fn tell_tracks(rt: &impl Print, pile: &Annex<Tied<Table>>) -> anyhow::Result<()> {
     let count = pile.count();
     for track in 0..count {
         if let Some((first, second)) = pile.ends(track) {
@@ -162,33 +112,31 @@ fn tell_tracks(rt: &HostRuntime, pile: &Annex<Tied<Table>>) -> Result<(), Fault>
 }
 
 // Shuts a track of the pile, and again, and some beyond, and tells the answers.
-fn tell_answers(rt: &HostRuntime, pile: &mut Annex<Tied<Table>>) -> Result<(), Fault> {
+fn tell_answers(rt: &impl Print, pile: &mut Annex<Tied<Table>>) -> anyhow::Result<()> {
     shut_in_pile(pile, 2)?;
     let open = open_in_pile(pile);
     println!(rt; "shut track 2: accepted, {open} open")?;
     for track in 2..4 {
-        tell_shutting(rt, pile, track)?;
+        tell_shutting(rt, track, pile.shut(track))?;
     }
-    let above = number(shut_above(pile, 7));
-    println!(rt; "shut track 7: refused with {above}")?;
-    Ok(())
+    tell_shutting(rt, 7, shut_above(pile, 7))
 }
 
 // Tells that a fan and a tied one answer alike, and the tracks of a tower.
-fn tell_fans(rt: &HostRuntime) -> Result<(), Fault> {
+fn tell_fans(rt: &impl Print, heap: Global) -> anyhow::Result<()> {
     let mut fan = Fan::new();
     let mut same = Tied::new(Fan::new());
     let both = shut_both(&mut fan, &mut same, 0);
     println!(rt; "a fan and a tied fan shut track 0 alike: {both}")?;
-    let high = tower(rt.alloc())?;
+    let high = tower(heap)?;
     println!(rt; "a fan of 3, tied, annexed and tied again: {high} tracks")?;
     Ok(())
 }
 
-fn main(rt: HostRuntime) -> Result<(), Fault> {
+fn main(rt: HostRuntime) -> anyhow::Result<()> {
     println!(rt; "a table of two tracks, with 7 standing for 1, and an annex of one track")?;
     let mut pile = build(rt.alloc())?;
     tell_tracks(&rt, &pile)?;
     tell_answers(&rt, &mut pile)?;
-    tell_fans(&rt)
+    tell_fans(&rt, rt.alloc())
 }

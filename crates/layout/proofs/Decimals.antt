@@ -1,5 +1,5 @@
 -- The step of a loop over digits. Assumes nothing.
-use Rattle.std.proofs.Common.{◌≡◌, ℕ, ◌+◌, ◌*◌, ◌^◌, ◌<◌, ◌≤◌, ◌&&◌, leb, List, [], ◌∷◌, length, get_or, drop, Ok, Err, sym, refl, ap, ◌∙◌, pow-suc, add-one, arith}
+use Rattle.std.proofs.Common.{◌≡◌, ℕ, ◌+◌, ◌<◌, ◌≤◌, ◌&&◌, leb, List, [], ◌∷◌, length, get_or, drop, Ok, Err, sym, refl, ap, ◌∙◌, arith}
 use Rattle.std.proofs.lemmas.List.{at_drop_more}
 use Rattle.std.proofs.lemmas.Bool.{cond-true, and_from, le-leb}
 use Rattle.std.proofs.lemmas.Bool.Decides.{nat_tests}
@@ -11,11 +11,6 @@ pub after_err : (e : NumberFault) (xs : List ℕ) → digits_after (Err e) xs �
 after_err e [] = refl
 after_err e (b ∷ bs) = refl
 
-pub digits_more : (n : ℕ) (xs : List ℕ) (i d : ℕ) → i < length xs → Ok d ≡ digit_of (get_or xs i 0)
-    → digits_after (Ok (n * 10 + d)) (drop (i + 1) xs) ≡ digits_after (Ok n) (drop i xs)
-digits_more n xs i d h e =
-    sym (at_drop_more (digits_after (Ok n)) xs i 0 h ∙ ap (λ r. digits_after (with_digit r n) (drop (i + 1) xs)) (sym e))
-
 pub digits_end : (n : ℕ) (xs : List ℕ) (i : ℕ) (e : NumberFault) → i < length xs → Err e ≡ digit_of (get_or xs i 0)
     → digits_after (Ok n) (drop i xs) ≡ Err e
 digits_end n xs i e h p =
@@ -26,6 +21,3 @@ digit_small b d e = grind (arith, nat_tests)
 
 pub decimal_short : (xs : List ℕ) → 1 ≤ length xs → length xs ≤ 4 → decimal xs ≡ digits_after (Ok 0) xs
 decimal_short xs l h = cond-true (leb 1 (length xs) && leb (length xs) 4) (digits_after (Ok 0) xs) (Err Wrong) (and_from _ _ (le-leb 1 (length xs) l) (le-leb (length xs) 4 h))
-
-pub digits_below : (n d i : ℕ) → n < 10 ^ i → d < 10 → n * 10 + d < 10 ^ (i + 1)
-digits_below n d i h k = rw (add-one, pow-suc) (omega arith)

@@ -3,7 +3,6 @@ pub mod Splits
 pub mod Decimals
 pub mod Numbers
 pub mod Numerals
-pub mod Letters
 pub mod LineKinds
 pub mod Walks
 pub mod Words

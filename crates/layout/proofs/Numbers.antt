@@ -1,24 +1,14 @@
 -- What the fields that are read say of the numbers of a line. Assumes nothing.
-use Rattle.std.proofs.Common.{◌≡◌, ℕ, ◌<◌, ◌≤◌, List, [], ◌∷◌, length, Some, None, Ok, Err, Result, sym, refl, ap, ◌∙◌, arith}
+use Rattle.std.proofs.Common.{◌≡◌, ℕ, ◌<◌, ◌≤◌, List, [], ◌∷◌, length, Some, Ok, Err, Result, sym, refl, ap, ◌∙◌, arith}
 use Rattle.layout.specs.declared.faults.NumberFault.{NumberFault}
 use Rattle.layout.specs.declared.faults.NumberFault.TheVariants.{Wrong}
 use Rattle.layout.specs.Layout.{fields, first_of, rest_of, first_number, number_of, between, decimal, numbers_of, both, end_of}
 use Rattle.std.proofs.lemmas.Bool.Decides.{nat_tests}
 use Rattle.layout.proofs.Splits.{fields_step}
 
-pub first_none : (fs : List (List ℕ)) → None ≡ first_of fs → fs ≡ []
-first_none [] e = refl
-first_none (w ∷ ws) e = cc
-
 pub first_some : (fs : List (List ℕ)) (w : List ℕ) → Some w ≡ first_of fs → fs ≡ w ∷ rest_of fs
 first_some [] w e = cc
 first_some (v ∷ vs) w e = cc
-
-pub number_missing : (low high : ℕ) (fs : List (List ℕ)) → None ≡ first_of fs → Err Wrong ≡ first_number low high fs
-number_missing low high fs e = rw (first_none fs e)
-
-pub number_there : (low high : ℕ) (fs : List (List ℕ)) (w : List ℕ) → Some w ≡ first_of fs → first_number low high fs ≡ between low high (decimal w)
-number_there low high fs w e = ap (first_number low high) (first_some fs w e)
 
 -- nothing is left only of an empty text
 pub more_left : (l : List ℕ) → 0 < length l → Err Wrong ≡ end_of (fields l)

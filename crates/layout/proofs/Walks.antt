@@ -45,18 +45,6 @@ pub walk_fault : (ls : List (List ℕ)) (place : Place) (n : ℕ) (f : FileFault
 walk_fault [] place n f e = end_fault (complete place) (points_of place) f (placed OutOfPlace n) e
 walk_fault (l ∷ ls) place n f e = follow_fault ls place n f (line_of place l) e
 
-end_whole : (b : Bool) (n : ℕ) (g : FileFault) → ◌≡◌ {A = Result (Option Content) FileFault} (Ok None) (cond b (Ok None) (Err g)) → ◌≡◌ {A = Reading} (cond b (Ok (n, [])) (Err g)) (Ok (n, []))
-end_whole true n g e = refl
-end_whole false n g e = cc
-
-none_never : (n : ℕ) (x y : Reading) (r : Result Content LineFault) → Ok None ≡ next_of r n → x ≡ y
-none_never n x y (Ok t) e = cc
-none_never n x y (Err f) e = cc
-
-pub walk_end : (ls : List (List ℕ)) (place : Place) (n : ℕ) → Ok None ≡ read_next ls place n → walk ls place n ≡ Ok (points_of place, [])
-walk_end [] place n e = end_whole (complete place) (points_of place) (placed OutOfPlace n) e
-walk_end (l ∷ ls) place n e = none_never n (walk (l ∷ ls) place n) (Ok (points_of place, [])) (line_of place l) e
-
 pub next_line_is : (s : Content) (n : ℕ) (r : Result Content LineFault) → Ok (Some s) ≡ next_of r n → Ok s ≡ r
 next_line_is s n (Ok t) e = cc
 next_line_is s n (Err x) e = cc

@@ -37,7 +37,7 @@ pub trait Network {
     fn is_open(&self, track: usize) -> bool
         ensures { result ≡ open_at (tracks self.now) track };
 
-    // Shuts (`true`) or reopens (`false`) a track, or refuses and changes nothing.
+    // Shuts (`true`) or reopens (`false`) a track, or refuses and changes nothing: the flag is the state that the track is to have.
     fn set_state(&mut self, track: usize, shut: bool) -> Result<(), Refusal>
         ensures value { numbered result ≡ state_answer shut (tracks self.old) track }
         ensures after { tracks self.new ≡ state_after shut (tracks self.old) track };
@@ -63,7 +63,7 @@ pub trait Network {
 }
 
 impl Refusal {
-    // The number that the refusal is known by. No two refusals share one.
+    // The number that the refusal is known by. No two refusals share one, which a `From` could not say.
     pub fn number(self) -> u8
         ensures value { result ≡ refusal_number self }
         ensures own { (other : Refusal) → result ≡ refusal_number other → other ≡ self }

@@ -11,12 +11,7 @@ pub(crate) fn until(bytes: &[u8], stop: u8) -> usize
     ensures value { result ≡ prefix_len (λ b. not (b == stop)) bytes.now }
     ensures within { result ≤ length bytes.now }
 {
-    for (i, b) in bytes.iter().enumerate() {
-        if *b == stop {
-            return i;
-        }
-    }
-    bytes.len()
+    bytes.iter().take_while(|b| **b != stop).count()
 }
 
 // How many spaces stand at the front.
@@ -24,22 +19,15 @@ fn spaces(bytes: &[u8]) -> usize
     ensures value { result ≡ prefix_len (λ b. nat_eq b 32) bytes.now }
     ensures within { result ≤ length bytes.now }
 {
-    for (i, b) in bytes.iter().enumerate() {
-        if *b != b' ' {
-            return i;
-        }
-    }
-    bytes.len()
+    bytes.iter().take_while(|b| **b == b' ').count()
 }
 
 // The digit that a byte writes.
 fn digit(byte: u8) -> Result<u16, NumberFault>
     ensures { result ≡ digit_of byte }
 {
-    match char::from(byte) {
-        '0'..='9' => Ok(u16::from(byte - b'0')),
-        _ => Err(NumberFault::Wrong),
-    }
+    let digit = char::from(byte).to_digit(10).ok_or(NumberFault::Wrong)?;
+    Ok(digit as u16)
 }
 
 // The number that a field of 1 to 4 digits writes.

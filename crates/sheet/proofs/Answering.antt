@@ -1,7 +1,7 @@
 -- Answers by marks are answers by the yard that the marks are of. Assumes nothing.
-use Rattle.std.proofs.Common.{◌≡◌, ℕ, ◌<◌, Bool, true, false, cond, not, ◌&&◌, eqb, ltb, List, [], ◌∷◌, length, Ok, Err, Decides, sym, refl, ap, ◌∙◌, subst, ⊎_elim, arith}
-use Rattle.std.proofs.lemmas.Bool.{cases_Bool, cond-true, lt-ltb, ltb-true, false≢true}
-use Rattle.std.proofs.lemmas.Bool.Decides.{Decides-and, Decides-or, Decides-not, Decides-eqb, Decides-like}
+use Rattle.std.proofs.Common.{◌≡◌, ℕ, ◌<◌, Bool, true, not, ◌&&◌, eqb, List, [], ◌∷◌, length, Ok, Decides, refl, ap, subst, arith}
+use Rattle.std.proofs.lemmas.Bool.{false≢true}
+use Rattle.std.proofs.lemmas.Bool.Decides.{Decides-and, Decides-or, Decides-not, Decides-eqb, Decides-like, nat_tests}
 use Rattle.network.specs.declared.track.Track.{Track}
 use Rattle.graph.specs.Classes.{LeadsClass}
 use Rattle.graph.specs.Counts.{Count, PairCount}
@@ -15,16 +15,9 @@ use Rattle.sheet.specs.Asked.{mark_answer, is_single, parting_by, TotalsOf, Tota
 use Rattle.sheet.specs.Marks.{mark_at, MarksOf, is_mates, lead_in}
 use Rattle.sheet.proofs.Marks.{single_bridge, bridge_single, lead_class, class_lead, together_pair, pair_together}
 
-pub mark_there : (ms : List Mark) (t : ℕ) → t < length ms → Ok (mark_at ms t) ≡ mark_answer ms t
-mark_there ms t h = sym (cond-true _ _ _ (lt-ltb t (length ms) h))
-
 -- where a mark is answered, the track is there and has it
 pub answered : (ms : List Mark) (t : ℕ) (m : Mark) → Ok m ≡ mark_answer ms t → (t < length ms) × (m ≡ mark_at ms t)
-answered ms t m e =
-    ⊎_elim
-    (λ b. (ltb-true t (length ms) b, (let z : Ok m ≡ cond true (Ok (mark_at ms t)) (Err 1) = e ∙ ap (λ c. cond c (Ok (mark_at ms t)) (Err 1)) b in cc)))
-    (λ b. absurd (let z : Ok m ≡ cond false (Ok (mark_at ms t)) (Err 1) = e ∙ ap (λ c. cond c (Ok (mark_at ms t)) (Err 1)) b in let w : ◌≡◌ {A = ℕ} 0 1 = cc in omega arith))
-    (cases_Bool (ltb t (length ms)))
+answered ms t m e = grind (arith, nat_tests)
 
 -- the test of a single mark
 single_is : (m : Mark) → is_single m ≡ true → m ≡ Single

@@ -1,4 +1,3 @@
 pub mod Marks
 pub mod Meaning
 pub mod Asked
-pub mod Counted

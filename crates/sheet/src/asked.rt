@@ -10,24 +10,12 @@ use crate::mark::Mark;
 use crate::record::Sheet;
 use network::track::Refusal;
 
-// Whether a track is marked single.
-fn is_single(mark: Mark) -> bool
-    ensures { result ≡ is_single mark }
-{
-    match mark {
-        Mark::Single => true,
-        _ => false,
-    }
-}
-
 // Whether the marks of two tracks say that they part the yard.
 fn is_parting(t: usize, u: usize, m: Mark, n: Mark) -> bool
     ensures { result ≡ parting_by t u m n }
 {
-    if is_single(m) || is_single(n) {
-        return true;
-    }
     match (m, n) {
+        (Mark::Single, _) | (_, Mark::Single) => true,
         (Mark::Mates { lead: a, .. }, Mark::Mates { lead: b, .. }) => t != u && a == b,
         _ => false,
     }
@@ -53,10 +41,7 @@ impl Sheet {
         ensures value { numbered result ≡ mark_answer (sheet_marks self.now) track }
         ensures told { (y : List Track) → MarksOf y (sheet_marks self.now) → MarkTold y track (numbered result) }
     {
-        if track >= self.marks.len() {
-            return Err(Refusal::NoSuchTrack);
-        }
-        Ok(self.marks[track])
+        self.marks.get(track).copied().ok_or(Refusal::NoSuchTrack)
     }
 
     // Whether two tracks, perhaps the same or shut, part the yard together, or 1 where one of them is absent.

@@ -1,61 +1,33 @@
 // How a sheet is made and rewritten.
-ghost use Rattle.std.specs.Prelude.{◌≡◌, ℕ, ◌<◌, ◌≤◌, true, [], length, IfOk, if◌then◌else◌, vec_len, vec_capacity, Decides};
+ghost use Rattle.std.specs.Prelude.{◌≡◌, ℕ, ◌<◌, ◌≤◌, ◌↔◌, true, [], length, is_ok, IsOk, IfOk, Err, if◌then◌else◌, Decides};
 ghost use Rattle.sheet.specs.Marks.{mark_at, is_mates, LedWell, WellLed};
 ghost use Rattle.sheet.specs.Meaning.{sheet_marks, sheet_letter};
 
-use crate::mark::Mark;
+use crate::mark::{Mark, MarksError};
 use crate::record::Sheet;
+use network::TRACKS;
 use std::alloc::{AllocError, Global};
 
-const TRACKS: usize = 2048;
-
-// Whether a mark is mates with this lead and size.
-fn is_lead(mark: Mark, lead: u16, size: u16) -> bool
-    ensures { Decides result (mark ≡ Mark.Mates lead size) }
+// Whether the mark of a track is led well, where it is mates.
+fn is_led(marks: &[Mark], number: usize, mark: Mark) -> bool
+    requires there { number < length marks.now }
+    requires own { mark ≡ mark_at marks.now number }
+    ensures { Decides result (is_mates mark ≡ true → LedWell marks.now number) }
 {
     match mark {
-        Mark::Mates {
-            lead: other,
-            size: many,
-        } => other == lead && many == size,
-        _ => false,
-    }
-}
-
-// Whether the track is led well, where it is marked mates.
-fn is_led(marks: &[Mark], number: usize) -> bool
-    requires { number < length marks.now }
-    ensures { Decides result (is_mates (mark_at marks.now number) ≡ true → LedWell marks.now number) }
-{
-    match marks[number] {
-        Mark::Mates { lead, size } => lead as usize <= number
-            && is_lead(marks[lead as usize], lead, size),
+        Mark::Mates { lead, .. } => lead as usize <= number && marks[lead as usize] == mark,
         _ => true,
     }
 }
 
-// Whether all tracks are.
+// Whether all marks are.
 fn are_led(marks: &[Mark]) -> bool
     ensures { Decides result (WellLed marks.now) }
 {
-    for number in 0..marks.len() {
-        if !is_led(marks, number) {
-            return false;
-        }
-    }
-    true
-}
-
-// Copies marks into a list that has room for them, and drops what it held.
-fn copy_marks(list: &mut Vec<Mark>, marks: &[Mark])
-    requires { length marks.now ≤ vec_capacity list.old }
-    ensures items { list.new.items ≡ marks.now }
-    ensures room { vec_capacity list.new ≡ vec_capacity list.old }
-{
-    list.clear();
-    for number in 0..marks.len() {
-        list.push_reserved(marks[number]);
-    }
+    marks
+        .iter()
+        .enumerate()
+        .all(|(number, mark)| is_led(marks, number, *mark))
 }
 
 impl Sheet {
@@ -68,18 +40,25 @@ impl Sheet {
         Ok(Sheet { letter: 0, marks })
     }
 
-    // Gives the sheet a letter and marks and answers true; false, and the sheet as it was, where there are more than 2,048
-    // marks or one of mates is not led well.
-    pub fn rewrite(&mut self, letter: u8, marks: &[Mark]) -> bool
-        ensures value { Decides result ((length marks.now ≤ 2048) × WellLed marks.now) }
-        ensures marks { sheet_marks self.new ≡ (if result then marks.now else sheet_marks self.old) }
-        ensures letter { sheet_letter self.new ≡ (if result then letter else sheet_letter self.old) }
+    // Gives the sheet a letter and marks; where there are more than 2,048 marks, or else where one of mates is not led well, says
+    // so and leaves the sheet as it was.
+    pub fn rewrite(&mut self, letter: u8, marks: &[Mark]) -> Result<(), MarksError>
+        ensures ok { IsOk result ↔ ((length marks.now ≤ 2048) × WellLed marks.now) }
+        ensures too_many { (result ≡ Err MarksError.TooMany) ↔ (2048 < length marks.now) }
+        ensures not_led { (result ≡ Err MarksError.NotLed) ↔ ((length marks.now ≤ 2048) × (¬ WellLed marks.now)) }
+        ensures marks { sheet_marks self.new ≡ (if is_ok result then marks.now else sheet_marks self.old) }
+        ensures letter { sheet_letter self.new ≡ (if is_ok result then letter else sheet_letter self.old) }
     {
-        if marks.len() > TRACKS || !are_led(marks) {
-            return false;
+        if marks.len() > TRACKS {
+            return Err(MarksError::TooMany);
         }
-        copy_marks(&mut self.marks, marks);
+        if !are_led(marks) {
+            return Err(MarksError::NotLed);
+        }
+        // a sheet has room for 2,048 marks
+        self.marks.clear();
+        self.marks.extend_from_slice(marks).unwrap();
         self.letter = letter;
-        true
+        Ok(())
     }
 }

@@ -47,7 +47,7 @@ impl<N: Network> Tied<N> {
         if !are_points(point, by) {
             return Err(Refusal::NoSuchPoint);
         }
-        self.stands[point as usize] = by;
+        self.stands[usize::from(point)] = by;
         Ok(())
     }
 

@@ -7,7 +7,7 @@ use Rattle.graph.specs.Yards.{Joined, here, along, Link, Ends, Open, track, shut
 use Rattle.graph.specs.Classes.{Fellow}
 use Rattle.graph.specs.Representing.{Represents}
 use Rattle.graph.proofs.Fronts.{open_within}
-use Rattle.graph.proofs.Subyards.{only_within, all_only, only_more}
+use Rattle.graph.proofs.Subyards.{only_within, all_only}
 use Rattle.graph.proofs.Cuts.{but, bridge_not_around, not_around_bridge}
 use Rattle.graph.proofs.Parting.{parts_at, at_parts, pair_by_ends}
 use Rattle.graph.proofs.Tests.{decides_open}
@@ -34,14 +34,11 @@ module _ (y : List Track) (points : Points y) where
       let far : (512 ≤ a) ⊎ (512 ≤ b) = grind (arith, nat_tests) in
       Decides-like _ (λ e. subst (Joined y a) e here) (λ j. ⊎_elim (λ e. e) (λ h. absurd (⊎_elim (λ f. omega (arith, f, h.0)) (λ f. omega (arith, f, h.1)) far)) (joined_below a b j)) (Decides-eqb a b)
 
-  -- the numbers beyond the tracks shut none
-  pub represents_all : (reps : List ℕ) → Represents reps (shut_also y (length y ∷ length y ∷ [])) → Represents reps y
-  represents_all reps held a b p q = (
-    λ e. only_within _ y ((held a b p q).0 e),
-    λ j. (held a b p q).1 (all_only (but (length y ∷ length y ∷ [])) y (λ t o. let low = open_within y t o in grind (arith, nat_tests)) j),
-  )
+  -- to shut no track as well leaves the yard as it is
+  pub represents_all : (reps : List ℕ) → Represents reps (shut_also y []) → Represents reps y
+  represents_all reps held a b p q = (λ e. only_within _ y ((held a b p q).0 e), λ j. (held a b p q).1 (all_only (but []) y (λ t o. refl) j))
 
-  pub decides_within : (reps : List ℕ) (a b : ℕ) → Represents reps (shut_also y (length y ∷ length y ∷ [])) → are_points a b ≡ true → Decides (eqb (get_or reps a 0) (get_or reps b 0)) (Joined y a b)
+  pub decides_within : (reps : List ℕ) (a b : ℕ) → Represents reps (shut_also y []) → are_points a b ≡ true → Decides (eqb (get_or reps a 0) (get_or reps b 0)) (Joined y a b)
   decides_within reps a b held inside =
       let p : a < 512 = grind (arith, nat_tests) in
       let q : b < 512 = grind (arith, nat_tests) in
@@ -55,15 +52,13 @@ module _ (y : List Track) (points : Points y) where
         let same = held (track y v).first (track y v).second low.0 low.1 in
         Decides-and _ _ (decides_open y v) (Decides-not _ (Decides-like _ same.0 same.1 (Decides-eqb _ _)))
 
-  pub decides_bridge_split : (reps : List ℕ) (t : ℕ) → t < length y → Represents reps (shut_also y (t ∷ t ∷ [])) → Decides (split reps (track y t)) (Bridge y t)
+  pub decides_bridge_split : (reps : List ℕ) (t : ℕ) → t < length y → Represents reps (shut_also y (t ∷ [])) → Decides (split reps (track y t)) (Bridge y t)
   decides_bridge_split reps t h held =
-      Decides-like _
-      (λ s. not_around_bridge y t s.0 (λ j. s.1 (only_more (but (t ∷ [])) (but (t ∷ t ∷ [])) y (λ w k. grind (arith, nat_tests)) j)))
-      (λ b. (b.0, λ j. bridge_not_around y t b (only_more (but (t ∷ t ∷ [])) (but (t ∷ [])) y (λ w k. grind (arith, nat_tests)) j)))
-      (decides_split reps _ held t h)
+      Decides-like _ (λ s. not_around_bridge y t s.0 s.1) (λ b. (b.0, bridge_not_around y t b)) (decides_split reps _ held t h)
 
-  pub decides_parts_split : (reps : List ℕ) (t u : ℕ) → t < length y → u < length y → Represents reps (shut_also y (t ∷ u ∷ [])) → Decides (split reps (track y t) || split reps (track y u)) (Parts y (t ∷ u ∷ []))
-  decides_parts_split reps t u h k held = Decides-like _ (at_parts y t u) (parts_at y t u) (Decides-or _ _ (decides_split reps _ held t h) (decides_split reps _ held u k))
+  pub decides_parts_split : (reps : List ℕ) (t u : ℕ) (one other : Track) → t < length y → u < length y → one ≡ track y t → other ≡ track y u → Represents reps (shut_also y (t ∷ u ∷ [])) → Decides (split reps one || split reps other) (Parts y (t ∷ u ∷ []))
+  decides_parts_split reps t u one other h k at also held =
+      rw (at, also) (Decides-like _ (at_parts y t u) (parts_at y t u) (Decides-or _ _ (decides_split reps _ held t h) (decides_split reps _ held u k)))
 
   -- a partner in a cut pair, by the ends of a track that is no bridge
   pub decides_fellow : (reps : List ℕ) (t u : ℕ) → t < length y → t ≢ u → Open y t → Open y u → ¬ Bridge y t → Represents reps (shut_also y (t ∷ u ∷ [])) → Decides (split reps (track y t)) (Fellow y t u)

@@ -1,4 +1,3 @@
-pub mod Copied
 pub mod Taken
 pub mod Records
 pub mod Passes

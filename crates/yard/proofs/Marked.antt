@@ -1,5 +1,5 @@
 -- Counting the representatives of marked points, and marking the points that open tracks touch. Assumes nothing.
-use Rattle.std.proofs.Common.{◌≡◌, ℕ, ◌+◌, ◌<◌, ◌≤◌, Bool, true, false, not, ◌&&◌, ◌≢◌, ◌⊎◌, List, length, get_or, set, Decides, sym, ap, ◌∙◌, subst, inl, inr, ⊎_elim, arith}
+use Rattle.std.proofs.Common.{◌≡◌, ℕ, ◌+◌, ◌<◌, Bool, true, false, not, ◌&&◌, ◌≢◌, ◌⊎◌, List, length, get_or, set, Decides, sym, ap, ◌∙◌, subst, inl, inr, ⊎_elim, arith}
 use Rattle.std.proofs.lemmas.List.{get_or-set_same, get_or-set_other, length-set}
 use Rattle.std.proofs.lemmas.Bool.{true≢false, cases_Bool, cases_eq, and_parts}
 use Rattle.std.proofs.lemmas.Bool.Decides.{nat_tests, Decides-at, Decides-like}
@@ -9,7 +9,6 @@ use Rattle.graph.specs.Groups.{Touched, LeadsGroup}
 use Rattle.graph.specs.Representing.{Represents}
 use Rattle.graph.specs.Yards.{Open, track}
 use Rattle.graph.proofs.Counting.{count_like}
-use Rattle.graph.proofs.Fronts.{open_within}
 use Rattle.yard.specs.Partitions.{FirstOf}
 
 module _ (reps : List ℕ) (marked : List Bool) where
@@ -122,10 +121,3 @@ module _ (y : List Track) where
         (held p h)))
         (cases_eq p a))
         (cases_eq p b)
-
-  pub marks_all : (marked : List Bool) (k : ℕ) → length y ≤ k → Marks marked k → (p : ℕ) → p < 512 → Decides (get_or marked p false) (Touched y p)
-  marks_all marked k past held p h =
-      Decides-like _
-      (λ b. record { number = b.0; is_open = b.2; at_end = b.3 })
-      (λ t. let low = open_within y t.number t.is_open in (t.number, omega arith, t.is_open, t.at_end))
-      (held p h)

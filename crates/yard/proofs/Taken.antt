@@ -1,13 +1,12 @@
 -- Taking in a track that is shut, that closes a cycle, or that joins what was apart. Assumes nothing.
-use Rattle.std.proofs.Common.{◌≡◌, ℕ, ◌<◌, true, false, cond, eqb, ◌≢◌, List, length, get_or, sym, refl, ap, ◌∙◌, subst, ⊎_elim, arith}
-use Rattle.std.proofs.lemmas.Bool.{true≢false, cases_lt}
+use Rattle.std.proofs.Common.{◌≡◌, ℕ, ◌<◌, true, false, cond, eqb, ◌≢◌, List, length, get_or, sym, refl, ap, ◌∙◌, subst, arith}
+use Rattle.std.proofs.lemmas.Bool.{true≢false}
 use Rattle.std.proofs.lemmas.Bool.Decides.{nat_tests}
-use Rattle.std.proofs.lemmas.List.{get_or_past}
 use Rattle.network.specs.Tracks.{Within}
 use Rattle.network.specs.declared.track.Track.{Track}
 use Rattle.graph.specs.Yards.{track}
 use Rattle.graph.proofs.Represented.{represents_shut, represents_open}
-use Rattle.yard.specs.Partitions.{Below, TakenIn}
+use Rattle.yard.specs.Partitions.{TakenIn}
 
 -- the representatives after those of u were replaced by v
 abbrev pub Replaced : List ℕ → List ℕ → ℕ → ℕ → Type 0
@@ -15,16 +14,6 @@ Replaced before after u v = (p : ℕ) → p < length before → get_or after p 0
 
 replaced_same : (q u v : ℕ) → u ≡ v → q ≡ cond (eqb q u) v q
 replaced_same q u v e = grind (arith, nat_tests)
-
-either_below : (q u v : ℕ) → q < 512 → v < 512 → cond (eqb q u) v q < 512
-either_below q u v a b = grind (arith, nat_tests)
-
-pub replaced_below : (before after : List ℕ) (u v : ℕ) → length after ≡ length before → v < 512 → Below before → Replaced before after u v → Below after
-replaced_below before after u v long low held is p =
-    ⊎_elim
-    (λ l. subst (λ n. n < 512) (sym (is p l)) (either_below (get_or before p 0) u v (held p) low))
-    (λ l. let past = get_or_past after p 0 (omega arith) in omega arith)
-    (cases_lt p (length before))
 
 module _ (reps : List ℕ) (x : Track) where
   pub taken_shut : x.shut ≡ true → TakenIn reps reps x false

@@ -1,9 +1,18 @@
 -- The answers to questions about tracks that may be absent. Assumes nothing.
 use Rattle.std.specs.Prelude.{◌≡◌, ℕ, ◌<◌, ◌≤◌, Bool, true, false, cond, ◌⊎◌, List, length, is_ok, Some, None, Ok, Err, Decides, Option, Result, ◌==◌, slice_index_or}
+use Rattle.network.specs.Tracks.{Within}
+use Rattle.network.specs.declared.track.Refusal.{Refusal}
+use Rattle.network.specs.declared.track.Refusal.TheVariants.{NoSuchTrack}
 use Rattle.network.specs.declared.track.Track.{Track}
+use Rattle.graph.specs.Yards.{track}
 use Rattle.graph.specs.Forests.{InForest}
 use Rattle.graph.specs.Classes.{InClass, InNoClass}
 use Rattle.yard.specs.declared.Class.{Class}
+
+-- the track t of a yard, or the refusal where there is no such track
+abbrev pub Recorded : List Track → ℕ → Result Track Refusal → Type 0
+Recorded y t (Ok x) = (t < length y) × (x ≡ track y t) × Within x
+Recorded y t (Err why) = (length y ≤ t) × (why ≡ NoSuchTrack)
 
 -- a question about the track t of a yard: 1 where there is no such track, else whether P holds
 abbrev pub AskOne : List Track → ℕ → Type 0 → Result Bool ℕ → Type 0

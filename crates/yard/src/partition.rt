@@ -2,7 +2,7 @@
 ghost use Rattle.std.specs.Prelude.{◌≡◌, ℕ, ◌<◌, not, ◌&&◌, length, if◌then◌else◌, ◌==◌, nat_eq, slice_index};
 ghost use Rattle.graph.specs.Counts.{Count};
 ghost use Rattle.network.specs.Tracks.{Within, each_point};
-ghost use Rattle.yard.specs.Partitions.{Below, FirstOf, TakenIn};
+ghost use Rattle.yard.specs.Partitions.{Below, FirstOf, split, TakenIn};
 
 use network::track::Track;
 use network::{POINTS, each_point};
@@ -37,8 +37,7 @@ impl Partition {
     pub(crate) fn new() -> Partition
         ensures { result.reps ≡ each_point }
     {
-        let reps = each_point();
-        Partition { reps }
+        Partition { reps: each_point() }
     }
 
     // Whether two points have the same representative.
@@ -47,6 +46,14 @@ impl Partition {
         ensures { result ≡ (slice_index self.now.reps a == slice_index self.now.reps b) }
     {
         self.reps[a as usize] == self.reps[b as usize]
+    }
+
+    // Whether a track is open and its ends have different representatives.
+    pub(crate) fn splits(&self, one: Track) -> bool
+        requires { Within one }
+        ensures { result ≡ split self.now.reps one }
+    {
+        !one.shut && !self.same(one.first, one.second)
     }
 
     // Takes a track in after those before it: it joins its ends, if it is open. Tells whether they were apart.
@@ -73,8 +80,8 @@ impl Partition {
     {
         let mut seen = [false; POINTS];
         let mut count = 0;
-        for point in 0..POINTS {
-            let rep = self.reps[point] as usize;
+        for (point, rep) in self.reps.iter().enumerate() {
+            let rep = *rep as usize;
             if is_first(marked[point], seen[rep]) {
                 seen[rep] = true;
                 count += 1;

@@ -1,2 +1,1 @@
-mod Makes
 mod Sums

@@ -1,47 +1,46 @@
--- What the tracks that a caller gives mean, and what each call answers and writes. Assumes nothing.
-use Rattle.std.specs.Prelude.{◌≡◌, ℕ, ◌*◌, ◌<◌, ◌≤◌, Bool, false, ◌≢◌, ◌⊎◌, List, map, length, Decides, slice_index_or}
-use Rattle.network.specs.Tracks.{Points, Limits}
+-- What each call answers and writes. Assumes nothing.
+use Rattle.std.specs.Prelude.{◌≡◌, ℕ, ◌*◌, ◌<◌, ◌≤◌, Bool, false, ◌≢◌, List, length, Ok, Err, Decides, Result, slice_index_or}
+use Rattle.network.specs.Tracks.{Limits}
+use Rattle.network.specs.declared.stop.Stop.{Stop}
+use Rattle.network.specs.declared.stop.Stop.TheVariants.{Refused, NoMemory}
+use Rattle.network.specs.declared.track.Refusal.TheVariants.{WrongLength}
 use Rattle.network.specs.declared.track.Track.{Track}
 use Rattle.graph.specs.Forests.{InForest}
-use Rattle.yard_c.specs.declared.given.Given.{Given}
+use Rattle.yard.specs.declared.Yard.{Yard}
+use Rattle.yard.specs.Meaning.{yard_tracks}
+use Rattle.boundary.specs.Told.{RefusedFor, Unmade}
 
--- a track as a network has it
-abbrev pub track_of : Given → Track
-track_of g = record { first = g.first; second = g.second; shut = g.shut }
+-- a question that every yard answers with one number, at most 2,048
+pub record AsksCount (Answers : Yard → ℕ → Type 0) : Type 0 where
+  pub few : (y : Yard) (n : ℕ) → Answers y n → n ≤ 2048
+  pub one : (y : Yard) (m n : ℕ) → Answers y m → Answers y n → m ≡ n
 
--- the tracks of the yard, in the order in which they are given
-abbrev pub tracks_of : List Given → List Track
-tracks_of gs = map track_of gs
-
--- what a status says of the tracks: 5 where they are more than 2,048, else 4 where one has a point above 511, else 0
-pub record Judged (ts : List Track) (status : ℕ) : Type 0 where
-  pub known : (status ≡ 0) ⊎ (status ≡ 4) ⊎ (status ≡ 5)
-  pub sound : status ≡ 0 → Limits ts
-  pub beyond : status ≡ 4 → (length ts ≤ 2048) × (¬ Points ts)
-  pub many : status ≡ 5 → 2048 < length ts
+-- the number that a yard of these tracks answers
+abbrev pub CountOf : (Yard → ℕ → Type 0) → List Track → ℕ → Type 0
+CountOf Answers ts n = (y : Yard) × (yard_tracks y ≡ ts) × Answers y n
 
 -- so many times the count
-pub record Timed (Counts : List Track → ℕ → Type 0) (ts : List Track) (times sum : ℕ) : Type 0 where
-  pub some : times ≢ 0 → (n : ℕ) × Counts ts n × (sum ≡ times * n)
+pub record Timed (Counts : ℕ → Type 0) (times sum : ℕ) : Type 0 where
+  pub some : times ≢ 0 → (n : ℕ) × Counts n × (sum ≡ times * n)
   pub none : times ≡ 0 → sum ≡ 0
 
--- a call that counts: where the tracks are within the limits it writes so many times the count and answers 0, or answers 255 for want of memory;
--- else it answers 4 or 5; whatever it answers but 0, it writes nothing
-pub record Summed (Counts : List Track → ℕ → Type 0) (ts : List Track) (times before after status : ℕ) : Type 0 where
-  pub judged : (status ≢ 255) → Judged ts status
-  pub short : status ≡ 255 → Limits ts
-  pub counted : status ≡ 0 → Timed Counts ts times after
-  pub left : status ≢ 0 → after ≡ before
+-- a call that counts: it writes so many times the count; or nothing, as there is no yard of the tracks
+abbrev pub Summed : (List Track → ℕ → Type 0) → List Track → ℕ → ℕ → ℕ → Result (Unit {0}) Stop → Type 0
+Summed Counts ts times before after (Ok _) = Limits ts × Timed (Counts ts) times after
+Summed Counts ts times before after (Err why) = Unmade ts why × (after ≡ before)
 
 -- the flags tell of each track whether it is in the forest, unless they were to be told no time
 pub record Marked (ts : List Track) (times : ℕ) (before after : List Bool) : Type 0 where
   pub told : times ≢ 0 → (t : ℕ) → t < length ts → Decides (slice_index_or after t false) (InForest ts t)
   pub left : times ≡ 0 → after ≡ before
 
--- a call that tells the forest: the same, with 7 where the flags are not as many as the tracks
-pub record Flagged (ts : List Track) (times : ℕ) (before after : List Bool) (status : ℕ) : Type 0 where
-  pub judged : status ≢ 7 → status ≢ 255 → Judged ts status
-  pub short : status ≡ 255 → Limits ts × (length before ≡ length ts)
-  pub unlike : status ≡ 7 → Limits ts × (length before ≢ length ts)
-  pub marked : status ≡ 0 → (length before ≡ length ts) × Marked ts times before after
-  pub left : status ≢ 0 → after ≡ before
+-- why no forest is told: there is no yard of the tracks, for a refusal; or the flags are not as many as the tracks; or they are, and memory is wanting
+abbrev pub Unmarked : List Track → List Bool → Stop → Type 0
+Unmarked ts flags NoMemory = Limits ts × (length flags ≡ length ts)
+Unmarked ts flags (Refused WrongLength) = Limits ts × (length flags ≢ length ts)
+Unmarked ts flags (Refused why) = RefusedFor ts why
+
+-- a call that tells the forest: the flags are told so many times; or nothing is written
+abbrev pub Flagged : List Track → ℕ → List Bool → List Bool → Result (Unit {0}) Stop → Type 0
+Flagged ts times before after (Ok _) = Limits ts × (length before ≡ length ts) × Marked ts times before after
+Flagged ts times before after (Err why) = Unmarked ts before why × (after ≡ before)

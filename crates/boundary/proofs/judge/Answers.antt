@@ -1,23 +1,13 @@
-use Rattle.std.proofs.Common.{sym, subst, arith, below_more}
-use Rattle.boundary.specs.Told.{tracks_of, Judged}
-use Rattle.boundary.proofs.Makes.{as_many, beyond_at, within_at, judged_many, judged_beyond, judged_sound}
+use Rattle.std.proofs.Common.{◌≡◌, false, rules, tests, arith}
+use Rattle.std.proofs.lemmas.Bool.Decides.{nat_tests}
+use Rattle.std.proofs.lemmas.Iterator.{YieldsList-from_slice, cases_from_all}
+use Rattle.network.specs.Tracks.{no_track, are_points}
+use Rattle.network.specs.declared.track.Track.{Track}
 use Rattle.boundary.proofs.judge.Goals as goal
 
-pub returns-then-given-gt2048 : goal.returns-then-given-gt2048
-returns-then-given-gt2048 c =
-    let gs = c.args.given.now in
-    subst (Judged (tracks_of gs)) (sym c.number.ensures.value) (judged_many (tracks_of gs) (omega (arith, as_many gs)))
-
-pub returns-then-not-are_points : goal.returns-then-not-are_points
-returns-then-not-are_points c =
-    let gs = c.args.given.now in
-    let beyond = beyond_at gs c.loop-one.one-index c.loop-one-test.true c.if-not-are_points.ensures in
-    subst (Judged (tracks_of gs)) (sym c.number-then-not-are_points.ensures.value) (judged_beyond (tracks_of gs) (omega (arith, as_many gs)) beyond)
-
-pub loop-one-preserved : goal.loop-one-preserved
-loop-one-preserved c = let gs = c.args.given.now in below_more _ _ c.loop-one.invariant (within_at gs c.loop-one.one-index c.loop-one-test.true c.if-not-are_points.ensures)
-
-pub returns : goal.returns
-returns c =
-    let gs = c.args.given.now in
-    judged_sound (tracks_of gs) (record { few = omega (arith, as_many gs); points = λ k h. c.loop-one.invariant k (omega (arith, as_many gs)) })
+pub returns-then-not-all : goal.returns-then-not-all
+returns-then-not-all c =
+    let cases = cases_from_all {all = c.args.tracks.now} _ _ _ (λ (t : Track). Unit {0}) (λ (t : Track). are_points t.first t.second ≡ false) c.all.ensures.ran (YieldsList-from_slice c.args.tracks.now cc) (λ x q k. search (rules, tests)) (λ x q k. search (rules, tests)) in
+    let found = rw c.if-not-all.true at cases in
+    let beyond = found.2 no_track in
+    (omega arith, λ points. let within = points found.0 found.1 in grind (arith, nat_tests))

@@ -1,15 +1,13 @@
 -- The turns of the loop of `lay_plan`, and its ways out. Assumes nothing.
 use Rattle.std.proofs.Common.{is_ok, Ok, Err, sym, ap, ◌∙◌}
-use Rattle.std.proofs.lemmas.List.{append-nil}
 use Rattle.std.proofs.lemmas.Result.{err_from_is_err_and}
 use Rattle.table.specs.Laying.{table_tracks}
 use Rattle.layout.specs.Contents.{content, next_content}
 use Rattle.layout.specs.Layout.{lines}
-use Rattle.layout.specs.Places.{points_of}
-use Rattle.layout.specs.Plans.{plan_of, onto, place_after, answer_to, planned}
+use Rattle.layout.specs.Plans.{plan_of, onto, place_after, answer_to}
 use Rattle.layout.proofs.Parts.{fewer_left}
 use Rattle.layout.proofs.Splits.{lines_rest}
-use Rattle.layout.proofs.Walks.{going_on, walk_end, walk_fault}
+use Rattle.layout.proofs.Walks.{going_on, walk_fault}
 use Rattle.plan.specs.Unread.{unread}
 use Rattle.plan.proofs.Laid.{line_laid}
 use Rattle.plan.proofs.lay_plan.Goals as goal
@@ -44,13 +42,3 @@ returns-in_err-line c =
     let p = err_from_is_err_and c.from_residual.result c.from_residual.ensures.1 in
     let r = p.1 ∙ ap Err p.2 in
     record { value = r ∙ sym (ap answer_to whole); tracks = λ k. let z = sym k ∙ ap is_ok r in cc }
-
-pub returns : goal.returns
-returns c =
-    let ts = table_tracks c.loop-line.table in
-    let was = c.loop-line.reader in
-    let r = c.in_ok-line.was ∙ ap Ok c.in_default.is in
-    let read = sym (ap next_content r) ∙ c.next_line.ensures.value in
-    let whole = c.loop-line.invariant.0 ∙ ap (onto ts) (walk_end (lines (unread was)) was.place was.number read) ∙ ap (λ us. Ok (points_of was.place, us)) (append-nil ts) in
-    let same = c.next_line.ensures.place ∙ ap (λ x. place_after was.place (next_content x)) r in
-    record { value = ap Ok (c.points.ensures ∙ ap points_of same) ∙ sym (ap answer_to whole); tracks = λ _. sym (ap planned whole) }

@@ -1,10 +1,8 @@
 -- The steps of the loop of `decimal`. Assumes nothing.
-use Rattle.std.proofs.Common.{◌≤◌, length, get_or, Ok, sym, ◌∙◌, arith}
+use Rattle.std.proofs.Common.{length, sym, ◌∙◌, arith}
 use Rattle.std.proofs.lemmas.Result.{err_from_is_err_and}
-use Rattle.std.proofs.lemmas.List.{at_drop_all}
 use Rattle.std.proofs.lemmas.Bool.{eqb-false}
-use Rattle.layout.specs.Layout.{digits_after}
-use Rattle.layout.proofs.Decimals.{digits_more, digits_end, digit_small, digits_below, decimal_short}
+use Rattle.layout.proofs.Decimals.{digits_end, decimal_short}
 use Rattle.plan.proofs.fields.decimal.Goals as goal
 
 pub returns-in_err-value : goal.returns-in_err-value
@@ -12,15 +10,3 @@ returns-in_err-value c =
     let p = err_from_is_err_and c.from_residual.result c.from_residual.ensures.1 in
     let ne = eqb-false (length c.args.field.now) 0 (sym c.if-is_empty.ensures) in
     rw (p.1, p.2) (sym (decimal_short c.args.field.now (omega arith) (omega arith) ∙ sym c.loop-byte.invariant.0 ∙ digits_end c.loop-byte.value c.args.field.now c.loop-byte.byte-index _ (omega arith) c.in_err-value.ensures))
-
-pub loop-byte-preserved : goal.loop-byte-preserved
-loop-byte-preserved c =
-    let d = c.in_ok-value.ensures in
-    let small = digit_small (get_or c.args.field.now c.loop-byte.byte-index 0) c.in_ok-value.field-0 d in
-    (digits_more c.loop-byte.value c.args.field.now c.loop-byte.byte-index c.in_ok-value.field-0 (omega arith) d ∙ c.loop-byte.invariant.0, digits_below c.loop-byte.value c.in_ok-value.field-0 c.loop-byte.byte-index c.loop-byte.invariant.1 small)
-
-pub returns : goal.returns
-returns c =
-    let l : length c.args.field.now ≤ c.loop-byte.byte-index = omega arith in
-    let ne = eqb-false (length c.args.field.now) 0 (sym c.if-is_empty.ensures) in
-    sym (decimal_short c.args.field.now (omega arith) (omega arith) ∙ sym c.loop-byte.invariant.0 ∙ at_drop_all (digits_after (Ok c.loop-byte.value)) c.args.field.now c.loop-byte.byte-index l)

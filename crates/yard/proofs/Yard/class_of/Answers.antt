@@ -1,4 +1,4 @@
-use Rattle.std.proofs.Common.{◌≡◌, ℕ, ◌+◌, ◌<◌, ◌≤◌, false, length, sym, refl, ap, ◌∙◌, subst, inl, arith}
+use Rattle.std.proofs.Common.{◌≡◌, ℕ, ◌+◌, ◌<◌, ◌≤◌, false, length, sym, refl, ◌∙◌, subst, inl, arith}
 use Rattle.std.proofs.lemmas.Bool.Decides.{not_from_Decides}
 use Rattle.graph.specs.Classes.{Fellow}
 use Rattle.graph.specs.Counts.{Count, start}
@@ -36,8 +36,7 @@ returns-then-size-lt2 c =
     let y = yard_tracks c.args.self.now in
     let low : c.args.number < length y = c.in_ok-is_bridge.ensures.0 in
     let all : c.loop-other.other ≡ length y = omega arith in
-    let is-shut : c.record.result.shut ≡ false = c.if-record.false in
-    let is_open : Open y c.args.number = sym (ap (λ x. x.shut) c.record.ensures.value) ∙ is-shut in
+    let is_open : Open y c.args.number = c.if-not-is_open.ensures.0 refl in
     (low, found_none y c.args.number c.loop-other.size is_open c.if-size-lt2.true (subst (λ n. Count (Fellow y c.args.number) n c.loop-other.size) all c.loop-other.invariant.1))
 
 pub returns : goal.returns
@@ -45,6 +44,5 @@ returns c =
     let y = yard_tracks c.args.self.now in
     let low : c.args.number < length y = c.in_ok-is_bridge.ensures.0 in
     let all : c.loop-other.other ≡ length y = omega arith in
-    let is-shut : c.record.result.shut ≡ false = c.if-record.false in
-    let is_open : Open y c.args.number = sym (ap (λ x. x.shut) c.record.ensures.value) ∙ is-shut in
+    let is_open : Open y c.args.number = c.if-not-is_open.ensures.0 refl in
     (low, found_class y c.args.number c.loop-other.lead c.loop-other.size is_open c.if-size-lt2.false (subst (λ n. Count (Fellow y c.args.number) n c.loop-other.size) all c.loop-other.invariant.1) c.loop-other.invariant.2 (λ k h f. c.loop-other.invariant.3 k (omega arith) f))

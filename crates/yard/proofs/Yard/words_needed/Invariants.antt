@@ -6,8 +6,8 @@ use Rattle.yard.specs.Meaning.{yard_tracks}
 use Rattle.yard.proofs.Yard.words_needed.Given as goal
 
 -- the points as the tracks below the number join them, and how many of these are chords
-abbrev pub invariant-loop-number : goal.invariant-loop-number
-invariant-loop-number l =
-    (l.words ≤ l.number)
-    × Represents l.points.reps (take l.number (yard_tracks l.self))
-    × Count (Chord (yard_tracks l.self)) l.number l.words
+abbrev pub invariant-loop-one : goal.invariant-loop-one
+invariant-loop-one l =
+    (l.words ≤ l.one-index)
+    × Represents l.points.reps (take l.one-index (yard_tracks l.self))
+    × Count (Chord (yard_tracks l.self)) l.one-index l.words

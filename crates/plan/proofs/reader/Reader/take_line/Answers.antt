@@ -1,22 +1,11 @@
 -- `take_line` takes the first line off the bytes that are left. Assumes nothing.
-use Rattle.std.proofs.Common.{◌≡◌, ℕ, ◌+◌, ◌-◌, ◌<◌, ◌≤◌, ◌⊎◌, List, [], length, take, drop, Some, sym, refl, ap, ◌∙◌, inl, inr, arith}
-use Rattle.std.proofs.lemmas.List.{take_rest, drop_all}
-use Rattle.layout.specs.Layout.{lines, first_of, past_line}
+use Rattle.std.proofs.Common.{◌≡◌, ℕ, ◌+◌, ◌-◌, ◌<◌, ◌≤◌, ◌⊎◌, List, length, take, drop, Some, sym, refl, ap, ◌∙◌, inl, inr, arith}
+use Rattle.std.proofs.lemmas.List.{take_rest}
+use Rattle.layout.specs.Layout.{first_of}
 use Rattle.layout.specs.Plans.{number_after}
 use Rattle.layout.proofs.Splits.{line_read}
-use Rattle.plan.specs.Unread.{unread}
 use Rattle.plan.proofs.reader.Reader.take_line.Goals as goal
 use Rattle.plan.proofs.reader.Reader.take_line.Goals.{then-end-rest, else-end-rest}
-
-pub returns-then-self : goal.returns-then-self
-returns-then-self c =
-    let e : unread c.args.self.now ≡ [] = drop_all c.args.self.now.at c.args.self.now.bytes.now (omega arith) in
-    record {
-      value = sym (ap (λ l. first_of (lines l)) e);
-      unread = e ∙ sym (ap past_line e);
-      place = refl;
-      number = sym (ap (λ l. number_after (lines l) c.args.self.now.number) e);
-    }
 
 pub returns : goal.returns
 returns c =

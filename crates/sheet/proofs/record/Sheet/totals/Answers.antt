@@ -1,60 +1,75 @@
-use Rattle.std.proofs.Common.{◌≡◌, ℕ, ◌+◌, ◌<◌, List, length, sym, refl, ap, ◌∙◌, subst, arith}
-use Rattle.std.proofs.lemmas.List.{get_or_read}
+use Rattle.std.proofs.Common.{rules, List, length, get_or, ℕ, ◌+◌, refl, ap, sym, ◌∙◌, subst, arith, length-set}
+use Rattle.sheet.specs.declared.total.Totals.{Totals}
+use Rattle.sheet.specs.Asked.{TotalsOf}
+use Rattle.sheet.specs.Marks.{mark_at, is_mates}
+use Rattle.sheet.specs.Meaning.{sheet_marks}
 use Rattle.graph.specs.Counts.{start, no_pairs}
 use Rattle.graph.proofs.Counting.{count_le}
-use Rattle.sheet.specs.declared.mark.Mark.TheVariants.{Shut}
-use Rattle.sheet.specs.Asked.{TotalsOf}
-use Rattle.sheet.specs.Counted.{Seen}
-use Rattle.sheet.specs.Marks.{mark_at, lead_in}
-use Rattle.sheet.specs.Meaning.{sheet_marks}
 use Rattle.sheet.proofs.Answering.{totals_told}
-use Rattle.sheet.proofs.Counted.{pairs_le, seen_none, one_mark_more, counted_letter, lead_low}
+use Rattle.sheet.proofs.Counted.{Seen, pairs_le, seen_none, seen_same, totals_same, single_more, seen_more, lead_more, mate_more, mates_read, neither}
 use Rattle.sheet.proofs.record.Sheet.totals.Goals as goal
-use Rattle.sheet.proofs.record.Sheet.totals.Goals.{After-index}
-
--- the mark that is read, and that its lead is a track
-mark_read : (c : After-index) → (mark_at (sheet_marks c.args.self.now) c.loop-number.number ≡ c.index.result.now) × (lead_in c.index.result.now < 2048) × (c.loop-number.number < 2048)
-mark_read c =
-    let ms = sheet_marks c.args.self.now in
-    let long = c.args.self.now.marks.ok.0 in
-    let few = c.args.self.now.few in
-    let len = c.len-number-end.ensures in
-    let there : c.loop-number.number < length ms = omega arith in
-    let is = sym (get_or_read ms c.loop-number.number _ there c.index.ensures Shut) in
-    (is, lead_low ms c.loop-number.number c.args.self.now.led (omega arith) _ is, omega arith)
+use Rattle.sheet.proofs.record.Sheet.totals.Goals.{in-Single, in-Mates, then-lead-number, else-lead-number, in_default}
 
 pub loop-number-init : goal.loop-number-init
-loop-number-init c = (refl, seen_none (sheet_marks c.args.self.now), record { singles = start; classes = start; pairs = no_pairs }, refl)
+loop-number-init c = record { room = refl; seen = seen_none (sheet_marks c.args.self.now); totals = record { singles = start; classes = start; pairs = no_pairs }; letter = refl }
 
-pub count_mark-requires : goal.count_mark-requires
-count_mark-requires c =
-    let w = mark_read (goal.at.count_mark-requires c).After-index in
-    let low = w.2 in
-    let t = c.loop-number.invariant.2 in
-    record {
-      room = c.loop-number.invariant.0;
-      low = w.1;
-      singles = let le = count_le t.singles in omega arith;
-      classes = let le = count_le t.classes in omega arith;
-      pairs = let le = pairs_le t.pairs (omega arith) in omega arith;
-      few = λ l h. let le = count_le (c.loop-number.invariant.1 l h) in omega arith;
-    }
+pub overflow_add-totals : goal.overflow_add-totals
+overflow_add-totals c = let le = count_le c.loop-number.invariant.totals.singles in search rules
+
+pub overflow_add-totals-then-lead-number : goal.overflow_add-totals-then-lead-number
+overflow_add-totals-then-lead-number c = let le = count_le c.loop-number.invariant.totals.classes in search rules
+
+pub overflow_add-totals-in-Mates : goal.overflow_add-totals-in-Mates
+overflow_add-totals-in-Mates c =
+    let le = pairs_le c.loop-number.invariant.totals.pairs (omega arith) in
+    elim c.if-lead-number.branch [ then-lead-number w ↦ let e = ap (λ t. t.pairs) w.totals-is in search rules | else-lead-number w ↦ let e = ap (λ t. t.pairs) w.totals-is in search rules ]
+
+pub overflow_add-seen : goal.overflow_add-seen
+overflow_add-seen c =
+    let read = mates_read (sheet_marks c.args.self.now) _ c.loop-number.number _ _ c.args.self.now.led c.deref-mark-items.ensures.value (omega arith) c.in-Mates.is in
+    let le = count_le (c.loop-number.invariant.seen c.in-Mates.lead read.1) in
+    search rules
 
 pub loop-number-preserved : goal.loop-number-preserved
 loop-number-preserved c =
-    let w = mark_read (goal.at.loop-number-preserved c).After-index in
     let ms = sheet_marks c.args.self.now in
     let n = c.loop-number.number in
-    let more = one_mark_more ms n c.loop-number.seen c.loop-number.totals c.loop-number.invariant.1 c.loop-number.invariant.2 c.index.result.now w.0 (omega (arith, w.1, c.loop-number.invariant.0)) w.1 in (
-      c.count_mark.auto.seen ∙ c.loop-number.invariant.0,
-      subst (λ (l : List ℕ). Seen ms l (n + 1)) (sym c.count_mark.ensures.seen) more.0,
-      subst (TotalsOf ms (n + 1)) (sym c.count_mark.ensures.totals) more.1,
-      ap (λ t. t.letter) c.count_mark.ensures.totals ∙ counted_letter n c.loop-number.seen c.loop-number.totals c.index.result.now ∙ c.loop-number.invariant.3,
-    )
+    let v = c.loop-number.invariant in
+    let same = ap (λ l. mark_at l n) (sym c.deref-mark-items.ensures.value) in
+    let Right : Totals → Type 0 = TotalsOf ms (n + 1) in
+    let Found : List ℕ → Type 0 = λ l. Seen ms l (n + 1) in
+    elim c.match-mark.branch [
+      | in-Single w ↦
+          let is = same ∙ w.in-Single.is in record {
+            room = ap length w.seen-is ∙ v.room;
+            seen = subst Found (sym w.seen-is) (seen_same ms n _ _ v.seen v.totals (ap is_mates is));
+            totals = subst Right (sym w.totals-is) (single_more ms n _ _ v.seen v.totals is);
+            letter = ap (λ t. t.letter) w.totals-is ∙ v.letter;
+          }
+      | in-Mates w ↦
+          let l = w.in-Mates.lead in
+          let seen = c.loop-number.seen in
+          let (is, low) = mates_read ms _ n _ _ c.args.self.now.led c.deref-mark-items.ensures.value (omega arith) w.in-Mates.is in
+          let paired : Totals → Totals = λ t. record { singles = t.singles; classes = t.classes; pairs = t.pairs + get_or seen l 0; letter = t.letter } in record {
+            room = ap length w.seen-is ∙ length-set seen l _ ∙ v.room;
+            seen = subst Found (sym w.seen-is) (seen_more ms n seen _ v.seen v.totals l _ is low (omega (arith, v.room)));
+            totals = elim w.if-lead-number.branch [
+              | then-lead-number w' ↦ subst Right (sym (w.totals-is ∙ ap paired w'.totals-is)) (lead_more ms n seen _ v.seen v.totals l _ is low w'.if-lead-number.true)
+              | else-lead-number w' ↦ subst Right (sym (w.totals-is ∙ ap paired w'.totals-is)) (mate_more ms n seen _ v.seen v.totals l _ is low w'.if-lead-number.false)
+            ];
+            letter = elim w.if-lead-number.branch [
+              | then-lead-number w' ↦ ap (λ t. t.letter) (w.totals-is ∙ ap paired w'.totals-is) ∙ v.letter
+              | else-lead-number w' ↦ ap (λ t. t.letter) (w.totals-is ∙ ap paired w'.totals-is) ∙ v.letter
+            ];
+          }
+      | in_default w ↦
+          let (single, mates) = neither (mark_at ms n) (λ e. w.in_default.not-Single (sym same ∙ e)) (λ l s e. w.in_default.not-Mates l s (sym same ∙ e)) in record {
+            room = ap length w.seen-is ∙ v.room;
+            seen = subst Found (sym w.seen-is) (seen_same ms n _ _ v.seen v.totals mates);
+            totals = subst Right (sym w.totals-is) (totals_same ms n _ _ v.seen v.totals single mates);
+            letter = ap (λ t. t.letter) w.totals-is ∙ v.letter;
+          }
+    ]
 
-pub returns : goal.returns
-returns c =
-    let ms = sheet_marks c.args.self.now in
-    let all : c.loop-number.number ≡ length ms = let long = c.args.self.now.marks.ok.0 in let len = c.len-number-end.ensures in omega arith in
-    let counts = subst (λ (n : ℕ). TotalsOf ms n c.loop-number.totals) all c.loop-number.invariant.2 in
-    record { counts = counts; letter = c.loop-number.invariant.3; told = λ y right. totals_told y ms right c.loop-number.totals counts }
+pub returns-clause-told : goal.returns-clause-told
+returns-clause-told c = λ y right. totals_told y (sheet_marks c.args.self.now) right c.loop-number.totals (search rules)

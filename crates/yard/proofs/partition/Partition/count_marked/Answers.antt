@@ -1,4 +1,4 @@
-use Rattle.std.proofs.Common.{◌≡◌, ℕ, ◌+◌, false, length, sym, ap, ◌∙◌, subst, arith}
+use Rattle.std.proofs.Common.{ℕ, ◌+◌, false, length, sym, ap, ◌∙◌, subst, arith}
 use lib.ListN.{length-replicate}
 use Rattle.std.proofs.lemmas.List.{get_or-replicate, length-set}
 use Rattle.std.proofs.lemmas.Bool.{true≢false}
@@ -42,8 +42,3 @@ loop-point-preserved c =
             subst counted (sym w.count-is) (none_more (FirstOf reps marked) k c.loop-point.count c.loop-point.invariant.3 (not_first reps marked c.loop-point.seen k low held e)),
           )
     ]
-
-pub returns : goal.returns
-returns c =
-    let all : c.loop-point.point ≡ 512 = omega arith in
-    subst (λ n. Count (FirstOf c.args.self.now.reps c.args.marked.now) n c.loop-point.count) all c.loop-point.invariant.3

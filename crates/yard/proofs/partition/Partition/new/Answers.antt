@@ -6,6 +6,6 @@ use Rattle.yard.proofs.partition.Partition.new.Goals as goal
 
 pub invariant_of-result : goal.invariant_of-result
 invariant_of-result c = record {
-  whole = ap length c.each_point-reps.ensures ∙ length-range_with_len 0 512;
-  within = subst Below (sym c.each_point-reps.ensures) each_point_below;
+  whole = ap length c.each_point.ensures ∙ length-range_with_len 0 512;
+  within = subst Below (sym c.each_point.ensures) each_point_below;
 }

@@ -1,8 +1,0 @@
-use Rattle.std.proofs.Common.{◌≡◌, ℕ, ◌<◌, length}
-use Rattle.yard.specs.Meaning.{yard_tracks}
-use Rattle.judging.specs.Leads.{RoundAgrees}
-use Rattle.judging.proofs.rounds.are_confirmed.Given as goal
-
--- the rounds before this one agree
-abbrev pub invariant-loop-round : goal.invariant-loop-round
-invariant-loop-round l = (length l.labels ≡ 2048) × ((r : ℕ) → r < l.round → RoundAgrees (yard_tracks l.yard) l.leads r)
