@@ -7,7 +7,7 @@ use network::TRACKS;
 use std::array;
 
 // For each track its lead, the lowest track with an equal or opposite label; none where it carries zero.
-#[derive(Clone, Copy)]
+#[derive(Drop)]
 pub(crate) struct Leads {
     pub(crate) leads: [Option<u16>; TRACKS],
     ghost long: { length leads ≡ 2048 },

@@ -5,6 +5,7 @@ use labelling::label_tracks;
 use network::track::Refusal;
 use sheet::mark::Mark;
 use sheet::record::Sheet;
+use sheet::total::Totals;
 use std::alloc::{AllocError, Global};
 use std::process::Abort;
 use std::test::Fail;
@@ -22,24 +23,17 @@ pub(crate) fn yard_of(heap: Global, ends: &[(u16, u16)]) -> Result<Yard, Fail> {
 
 // The labels that these words draw, one for each.
 pub(crate) fn drawn<K: Label>(heap: Global, words: &[u64]) -> Result<Vec<K>, AllocError> {
-    let mut labels = Vec::new(heap);
-    for word in words {
-        labels.push(K::draw(*word))?;
-    }
-    Ok(labels)
+    words.iter().map(|word| K::draw(*word)).collect(heap)
 }
 
-// The labelling that the words draw on a yard, judged: 0, or the number of the refusal.
+// The labelling that the words draw on a yard, judged: the number of the refusal, if it is refused.
 pub(crate) fn judged<K: Label>(
     heap: Global,
     yard: &Yard,
     words: &[u64],
     sheet: &mut Sheet,
-) -> Result<u8, Fail> {
-    let mut labels = Vec::new(heap);
-    for _track in 0..yard.tracks().len() {
-        labels.push(K::zero())?;
-    }
+) -> Result<Option<u8>, Fail> {
+    let mut labels: Vec<K> = yard.tracks().iter().map(|_| K::zero()).collect(heap)?;
     let _ = label_tracks(yard, words, labels.as_mut_slice())?;
     Ok(number_of(judge(yard, labels.as_slice(), sheet)))
 }
@@ -50,24 +44,21 @@ pub(crate) fn judged_labels<K: Label>(
     yard: &Yard,
     words: &[u64],
     sheet: &mut Sheet,
-) -> Result<u8, Fail> {
+) -> Result<Option<u8>, Fail> {
     let labels = drawn::<K>(heap, words)?;
     Ok(number_of(judge(yard, labels.as_slice(), sheet)))
 }
 
-// 0 for an accepted call, else the number of the refusal.
-pub(crate) fn number_of(answer: Result<(), Refusal>) -> u8 {
-    match answer {
-        Ok(()) => 0,
-        Err(refusal) => refusal.number(),
-    }
+// The number of the refusal, if the call is refused.
+pub(crate) fn number_of<T: Drop>(answer: Result<T, Refusal>) -> Option<u8> {
+    answer.err().map(|refusal| refusal.number())
 }
 
 // The sheet has these marks.
 pub(crate) fn check_marks(rt: &impl Abort, sheet: &Sheet, marks: &[Mark]) -> Result<(), Fail> {
-    assert_eq!(rt; sheet.marks().len(), marks.len());
-    for number in 0..marks.len() {
-        assert!(rt; sheet.mark(number)? == marks[number]);
+    assert_eq!(rt; sheet.marks(), marks);
+    for (number, mark) in marks.iter().enumerate() {
+        assert_eq!(rt; sheet.mark(number)?, *mark);
     }
     Ok(())
 }
@@ -81,10 +72,12 @@ pub(crate) fn check_totals(
     pairs: usize,
     letter: u8,
 ) {
-    let totals = sheet.totals();
-    assert_eq!(rt; totals.singles, singles);
-    assert_eq!(rt; totals.classes, classes);
-    assert_eq!(rt; totals.pairs, pairs);
-    assert_eq!(rt; totals.letter, letter);
+    let wanted = Totals {
+        singles,
+        classes,
+        pairs,
+        letter,
+    };
+    assert_eq!(rt; sheet.totals(), wanted);
     assert_eq!(rt; sheet.letter(), letter);
 }
