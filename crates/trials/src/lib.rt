@@ -1,9 +1,5 @@
-// Tests at the bounds and one beyond each, many cases to a test.
+// Tests of the reader of plans: files that are accepted, and refused by each number.
 #![tactic(auto)]
 
 #[cfg(test)]
-mod networks;
-#[cfg(test)]
 mod plans;
-#[cfg(test)]
-mod yards;

@@ -20,25 +20,15 @@ fn accepts(rt: &impl Abort, bytes: &[u8], table: &mut Table, points: u16, tracks
 }
 
 // An older track is gone, and the file is refused by this number at this line.
-fn refuses(
-    rt: &impl Abort,
-    bytes: &[u8],
-    table: &mut Table,
-    number: u8,
-    line: usize,
-) -> Result<(), Fail> {
+fn refuses(rt: &impl Abort, bytes: &[u8], table: &mut Table, number: u8, line: usize) {
     let _ = table.lay(7, 9);
     assert!(rt; table.count() > 0);
-    let answer = read_plan(bytes, table);
+    let fault = read_plan(bytes, table).err();
     assert_eq!(rt; table.count(), 0);
-    match answer {
-        Ok(_) => Err(Fail::new("accepted")),
-        Err(fault) => {
-            assert_eq!(rt; fault.refusal.number(), number);
-            assert_eq!(rt; fault.line, line);
-            Ok(())
-        }
-    }
+    assert_eq!(rt;
+        fault.map(|fault| (fault.refusal.number(), fault.line)),
+        Some((number, line))
+    );
 }
 
 #[test]
@@ -96,12 +86,13 @@ fn no_known_kind_is_12(rt: HostRuntime) -> Result<(), Fail> {
         b"e1 2",
         b"ex",
     ];
-    for file in files.iter() {
-        refuses(&rt, *file, &mut table, 12, 1)?;
+    for file in &files {
+        refuses(&rt, *file, &mut table, 12, 1);
     }
-    refuses(&rt, b"p edge 1 0\n\n", &mut table, 12, 2)?;
-    refuses(&rt, b"p edge 2 2\ne 1 2\n\ne 1 2\n", &mut table, 12, 3)?;
-    refuses(&rt, b"c\np edge 2 1\nx\ne 9 9\n", &mut table, 12, 3)
+    refuses(&rt, b"p edge 1 0\n\n", &mut table, 12, 2);
+    refuses(&rt, b"p edge 2 2\ne 1 2\n\ne 1 2\n", &mut table, 12, 3);
+    refuses(&rt, b"c\np edge 2 1\nx\ne 9 9\n", &mut table, 12, 3);
+    Ok(())
 }
 
 #[test]
@@ -125,8 +116,8 @@ fn out_of_place_is_13(rt: HostRuntime) -> Result<(), Fail> {
         (b"p edge 2 2\ne 1 2\nc\nc\n", 5),
         (b"p edge 512 2048\n", 2),
     ];
-    for (file, line) in files.iter() {
-        refuses(&rt, *file, &mut table, 13, *line)?;
+    for (file, line) in &files {
+        refuses(&rt, *file, &mut table, 13, *line);
     }
     Ok(())
 }
@@ -154,8 +145,8 @@ fn a_wrong_number_is_14(rt: HostRuntime) -> Result<(), Fail> {
         b"p edge 1 0\t",
         b"p edge 1 0\x00",
     ];
-    for file in problems.iter() {
-        refuses(&rt, *file, &mut table, 14, 1)?;
+    for file in &problems {
+        refuses(&rt, *file, &mut table, 14, 1);
     }
     let edges: [&[u8]; 16] = [
         b"p edge 2 1\ne",
@@ -175,8 +166,8 @@ fn a_wrong_number_is_14(rt: HostRuntime) -> Result<(), Fail> {
         b"p edge 512 1\ne 513 1",
         b"p edge 2 2\ne x 1\n\n",
     ];
-    for file in edges.iter() {
-        refuses(&rt, *file, &mut table, 14, 2)?;
+    for file in &edges {
+        refuses(&rt, *file, &mut table, 14, 2);
     }
     Ok(())
 }
@@ -189,7 +180,7 @@ fn a_full_plan_is_read(rt: HostRuntime) -> Result<(), Fail> {
     for _ in 0..2047 {
         text.extend_from_slice(b"e 512 1\n")?;
     }
-    refuses(&rt, text.as_slice(), &mut table, 13, 2049)?;
+    refuses(&rt, text.as_slice(), &mut table, 13, 2049);
     text.extend_from_slice(b"e 1 2\n")?;
     assert_eq!(rt; read_plan(text.as_slice(), &mut table).ok(), Some(512));
     assert_eq!(rt; table.count(), 2048);
@@ -198,14 +189,12 @@ fn a_full_plan_is_read(rt: HostRuntime) -> Result<(), Fail> {
     }
     assert_eq!(rt; table.ends(2047), Some((0, 1)));
     text.extend_from_slice(b"e 1 2\n")?;
-    refuses(&rt, text.as_slice(), &mut table, 13, 2050)
+    refuses(&rt, text.as_slice(), &mut table, 13, 2050);
+    Ok(())
 }
 
 fn is_comment(line: Option<Line>, text: &[u8]) -> bool {
-    match line {
-        Some(Line::Comment(given)) => given == text,
-        _ => false,
-    }
+    matches!(line, Some(Line::Comment(given)) if given == text)
 }
 
 #[test]

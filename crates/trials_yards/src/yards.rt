@@ -1,34 +1,17 @@
 // Small yards worked out, and yards of 512 points and 2,048 tracks.
+use boundary::yard_of;
 use fan::Fan;
 use network::Network;
-use network::track::Refusal;
+use network::track::{Refusal, Track};
 use std::alloc::Global;
 use std::process::Abort;
 use std::test::Fail;
 use table::Table;
 use yard::{Class, Yard};
 
-// A table of these tracks.
-fn table_of(heap: Global, ends: &[(u16, u16)]) -> Result<Table, Fail> {
-    let mut table = Table::new(heap)?;
-    for (first, second) in ends {
-        table.lay(*first, *second)?;
-    }
-    Ok(table)
-}
-
-// The yard of these tracks.
-fn yard_of(heap: Global, ends: &[(u16, u16)]) -> Result<Yard, Fail> {
-    let table = table_of(heap, ends)?;
-    Ok(Yard::of(heap, &table)?)
-}
-
-// The number of a refusal, or 0 for an answer.
-fn number(answer: Result<bool, Refusal>) -> u8 {
-    match answer {
-        Ok(_) => 0,
-        Err(refusal) => refusal.number(),
-    }
+// The number of a refusal, or none for an answer.
+fn number(answer: Result<bool, Refusal>) -> Option<u8> {
+    answer.err().map(|refusal| refusal.number())
 }
 
 // These tracks are in a class with this lead and size, and none is a bridge.
@@ -76,9 +59,9 @@ fn check_joined(rt: &impl Abort, yard: &Yard, answers: &[(u16, u16, bool)]) {
 
 // There is no track with this number.
 fn check_absent(rt: &impl Abort, yard: &Yard, track: usize) {
-    assert_eq!(rt; number(yard.is_bridge(track)), 1);
-    assert_eq!(rt; number(yard.are_parting(0, track)), 1);
-    assert_eq!(rt; number(yard.are_parting(track, 0)), 1);
+    assert_eq!(rt; number(yard.is_bridge(track)), Some(1));
+    assert_eq!(rt; number(yard.are_parting(0, track)), Some(1));
+    assert_eq!(rt; number(yard.are_parting(track, 0)), Some(1));
     assert!(rt; yard.class_of(track).is_err());
 }
 
@@ -89,7 +72,16 @@ fn check_counts(rt: &impl Abort, yard: &Yard, groups: usize, words: usize) {
 
 #[test]
 fn triangle_with_tail_and_loop(rt: HostRuntime) -> Result<(), Fail> {
-    let yard = yard_of(rt.alloc(), &[(0, 1), (1, 2), (2, 0), (2, 3), (3, 3)])?;
+    let yard = yard_of(
+        rt.alloc(),
+        &[
+            Track::open(0, 1),
+            Track::open(1, 2),
+            Track::open(2, 0),
+            Track::open(2, 3),
+            Track::open(3, 3),
+        ],
+    )?;
     check_class(&rt, &yard, &[0, 1, 2], 0, 3)?;
     check_alone(&rt, &yard, &[(3, true), (4, false)])?;
     let parting = [
@@ -148,7 +140,10 @@ fn no_tracks(rt: HostRuntime) -> Result<(), Fail> {
 
 #[test]
 fn three_parallel_tracks(rt: HostRuntime) -> Result<(), Fail> {
-    let yard = yard_of(rt.alloc(), &[(0, 1), (0, 1), (0, 1)])?;
+    let yard = yard_of(
+        rt.alloc(),
+        &[Track::open(0, 1), Track::open(0, 1), Track::open(0, 1)],
+    )?;
     check_alone(&rt, &yard, &[(0, false), (1, false), (2, false)])?;
     check_parting(&rt, &yard, &[(0, 1, false)])?;
     check_counts(&rt, &yard, 1, 2);
@@ -157,7 +152,7 @@ fn three_parallel_tracks(rt: HostRuntime) -> Result<(), Fail> {
 
 #[test]
 fn one_loop(rt: HostRuntime) -> Result<(), Fail> {
-    let yard = yard_of(rt.alloc(), &[(0, 0)])?;
+    let yard = yard_of(rt.alloc(), &[Track::open(0, 0)])?;
     check_alone(&rt, &yard, &[(0, false)])?;
     check_counts(&rt, &yard, 1, 1);
     Ok(())
