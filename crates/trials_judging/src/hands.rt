@@ -9,17 +9,7 @@ use sheet::total::Totals;
 use std::alloc::{AllocError, Global};
 use std::process::Abort;
 use std::test::Fail;
-use table::Table;
 use yard::Yard;
-
-// The yard of these tracks, all open.
-pub(crate) fn yard_of(heap: Global, ends: &[(u16, u16)]) -> Result<Yard, Fail> {
-    let mut table = Table::new(heap)?;
-    for (first, second) in ends {
-        table.lay(*first, *second)?;
-    }
-    Ok(Yard::of(heap, &table)?)
-}
 
 // The labels that these words draw, one for each.
 pub(crate) fn drawn<K: Label>(heap: Global, words: &[u64]) -> Result<Vec<K>, AllocError> {

@@ -1,9 +1,11 @@
 // Ten small yards.
-use crate::hands::{check_marks, check_totals, judged, judged_labels, number_of, yard_of};
+use crate::hands::{check_marks, check_totals, judged, judged_labels, number_of};
+use boundary::yard_of;
 use fan::Fan;
 use label::sum::Sum32;
 use label::xor::Xor;
 use network::Network;
+use network::track::Track;
 use sheet::mark::Mark;
 use sheet::record::Sheet;
 use std::test::Fail;
@@ -15,10 +17,10 @@ fn few_tracks(rt: HostRuntime) -> Result<(), Fail> {
     let none = yard_of(rt.alloc(), &[])?;
     assert_eq!(rt; judged::<Xor>(rt.alloc(), &none, &[], &mut sheet)?, None);
     check_totals(&rt, &sheet, 0, 0, 0, b'X');
-    let one = yard_of(rt.alloc(), &[(0, 1)])?;
+    let one = yard_of(rt.alloc(), &[Track::open(0, 1)])?;
     assert_eq!(rt; judged::<Xor>(rt.alloc(), &one, &[], &mut sheet)?, None);
     check_marks(&rt, &sheet, &[Mark::Single])?;
-    let ring = yard_of(rt.alloc(), &[(0, 0)])?;
+    let ring = yard_of(rt.alloc(), &[Track::open(0, 0)])?;
     assert_eq!(rt;
         judged::<Xor>(rt.alloc(), &ring, &[0], &mut sheet)?,
         Some(10)
@@ -35,12 +37,15 @@ fn few_tracks(rt: HostRuntime) -> Result<(), Fail> {
 #[test]
 fn parallel_tracks(rt: HostRuntime) -> Result<(), Fail> {
     let mut sheet = Sheet::blank(rt.alloc())?;
-    let two = yard_of(rt.alloc(), &[(0, 1), (0, 1)])?;
+    let two = yard_of(rt.alloc(), &[Track::open(0, 1), Track::open(0, 1)])?;
     assert_eq!(rt; judged::<Sum32>(rt.alloc(), &two, &[6], &mut sheet)?, None);
     let mates = Mark::Mates { lead: 0, size: 2 };
     check_marks(&rt, &sheet, &[mates, mates])?;
     check_totals(&rt, &sheet, 0, 1, 1, b'S');
-    let three = yard_of(rt.alloc(), &[(0, 1), (0, 1), (0, 1)])?;
+    let three = yard_of(
+        rt.alloc(),
+        &[Track::open(0, 1), Track::open(0, 1), Track::open(0, 1)],
+    )?;
     assert_eq!(rt;
         judged::<Xor>(rt.alloc(), &three, &[3, 3], &mut sheet)?,
         Some(10)
@@ -93,7 +98,7 @@ fn fan_of_three(rt: HostRuntime) -> Result<(), Fail> {
 #[test]
 fn labels_from_any_hand(rt: HostRuntime) -> Result<(), Fail> {
     let mut sheet = Sheet::blank(rt.alloc())?;
-    let two = yard_of(rt.alloc(), &[(0, 1), (1, 0)])?;
+    let two = yard_of(rt.alloc(), &[Track::open(0, 1), Track::open(1, 0)])?;
     assert_eq!(rt;
         judged_labels::<Sum32>(rt.alloc(), &two, &[7], &mut sheet)?,
         Some(7)

@@ -1,9 +1,11 @@
 // Yards of 512 points and 2,048 tracks, in each kind.
-use crate::hands::{check_totals, judged, judged_labels, yard_of};
+use crate::hands::{check_totals, judged, judged_labels};
+use boundary::yard_of;
 use label::Label;
 use label::both::Both;
 use label::sum::Sum32;
 use label::xor::Xor;
+use network::track::Track;
 use sheet::record::Sheet;
 use std::alloc::{AllocError, Global};
 use std::process::Abort;
@@ -72,7 +74,10 @@ fn a_path(rt: HostRuntime) -> Result<(), Fail> {
 #[test]
 fn one_sign_for_both_parts(rt: HostRuntime) -> Result<(), Fail> {
     let mut sheet = Sheet::blank(rt.alloc())?;
-    let three = yard_of(rt.alloc(), &[(0, 1), (0, 1), (0, 1)])?;
+    let three = yard_of(
+        rt.alloc(),
+        &[Track::open(0, 1), Track::open(0, 1), Track::open(0, 1)],
+    )?;
     let words = [38_654_705_669, 18_446_744_035_054_845_957, 4_294_967_286];
     assert_eq!(rt;
         judged_labels::<Both<Sum32, Sum32>>(rt.alloc(), &three, &words, &mut sheet)?,
