@@ -1,22 +1,15 @@
--- Chains of the open tracks at a point: heads and links, as lists of numbers. Assumes nothing.
-use Rattle.std.specs.Prelude.{◌≡◌, ℕ, suc, ◌<◌, Bool, true, false, cond, not, ◌&&◌, List, ◌==◌, slice_index}
+-- Chains of the tracks that are picked for a point: heads and links. Assumes nothing.
+use Rattle.std.specs.Prelude.{◌≡◌, ℕ, zero, suc, ◌<◌, Bool, true, cond, List, slice_index}
 use Rattle.network.specs.declared.track.Track.{Track}
 use Rattle.graph.specs.Yards.{track}
 
--- the second point of x, or its first
-abbrev pub end_of : Bool → Track → ℕ
-end_of second x = cond second x.second x.first
+-- the highest number below n that is picked, one higher, or 0 where none is
+abbrev pub highest : (ℕ → Bool) → ℕ → ℕ
+highest pick zero = 0
+highest pick (suc n) = cond (pick n) (suc n) (highest pick n)
 
--- x is open, and p is that end of it
-abbrev pub at_end : Bool → ℕ → Track → Bool
-at_end second p x = not x.shut && end_of second x == p
-
--- from h down, the links lead through just those numbers below n that are picked; a number stands there one higher, and 0 is the end
-pub data Falls (links : List ℕ) (pick : ℕ → Bool) : ℕ → ℕ → Type 0 where
-  done : Falls links pick 0 0
-  pass : {n h : ℕ} → Falls links pick n h → pick n ≡ false → Falls links pick (suc n) h
-  head : {n h : ℕ} → Falls links pick n h → pick n ≡ true → slice_index links n ≡ h → Falls links pick (suc n) (suc n)
-
--- each point has at its place the head of a chain of the open tracks below n that have that end there
-abbrev pub Chained : List ℕ → List ℕ → Bool → List Track → ℕ → Type 0
-Chained heads links second y n = (p : ℕ) → p < 512 → Falls links (λ t. at_end second p (track y t)) n (slice_index heads p)
+-- each point has at its place the highest of the tracks below n that are picked for it, and each of these tracks the next lower one that is picked for the same point
+abbrev pub Chained : (ℕ → Track → Bool) → List Track → List ℕ → List ℕ → ℕ → Type 0
+Chained pick y heads links n =
+    ((p : ℕ) → p < 512 → slice_index heads p ≡ highest (λ t. pick p (track y t)) n)
+    × ((p t : ℕ) → t < n → pick p (track y t) ≡ true → slice_index links t ≡ highest (λ u. pick p (track y u)) t)

@@ -1,13 +1,8 @@
--- Degrees: a degree of one names its track, and what taking a track off does. Assumes nothing.
-use Rattle.std.proofs.Common.{◌≡◌, ℕ, suc, ◌-◌, ◌<◌, ◌≤◌, Bool, true, false, ◌≢◌, List, sym, refl, ap, ◌∙◌, subst, ⊎_elim, arith}
+-- Numbers that are picked: one more, one fewer, and that a single one is told by the exclusive or. Assumes nothing.
+use Rattle.std.proofs.Common.{◌≡◌, ℕ, zero, suc, ◌+◌, ◌<◌, ◌≤◌, Bool, true, false, cond, ◌≢◌, sym, refl, ap, ◌∙◌, ⊎_elim, add-one, arith}
 use lib.Bits.{bit_xor, xor_assoc, xor_comm, xor_zero_l, xor_self}
-use Rattle.std.proofs.lemmas.Bool.{cases_eq, cases_lt, true≢false}
-use Rattle.network.specs.declared.track.Track.{Track}
-use Rattle.graph.specs.Counts.{Count}
-use Rattle.graph.specs.Counts as counts
-use Rattle.graph.specs.Forests.{Touches}
-use Rattle.graph.specs.Degrees.{Degree, start, one, other}
-use Rattle.graph.proofs.Counting.{count_some, count_two, counted_other}
+use Rattle.std.proofs.lemmas.Bool.{cases_eq, cases_Bool, true≢false}
+use Rattle.graph.specs.Degrees.{how_many, xor_of}
 
 -- the numbers crossed over
 xor_swap : (a b c : ℕ) → bit_xor (bit_xor a b) c ≡ bit_xor (bit_xor a c) b
@@ -17,64 +12,127 @@ xor_swap a b c = xor_assoc a b c ∙ ap (bit_xor a) (xor_comm b c) ∙ sym (xor_
 xor_gone : (a b : ℕ) → bit_xor (bit_xor a b) b ≡ a
 xor_gone a b = xor_assoc a b b ∙ ap (bit_xor a) (xor_self b) ∙ xor_comm a 0 ∙ xor_zero_l a
 
-module _ (y : List Track) (p : ℕ) where
-  -- t is left and has the end p
-  abbrev pub LeftAt : (ℕ → Bool) → ℕ → Type 0
-  LeftAt left t = (left t ≡ true) × Touches y t p
+module _ (pick : ℕ → Bool) where
+  many_true : (n : ℕ) → pick n ≡ true → how_many pick (suc n) ≡ suc (how_many pick n)
+  many_true n e = ap (λ b. cond b (suc (how_many pick n)) (how_many pick n)) e
 
-  pub degree_count : {left : ℕ → Bool} {n d x : ℕ} → Degree y left p n d x → Count (LeftAt left) n d
-  degree_count start = counts.start
-  degree_count (one g l h) = counts.one (degree_count g) (l, h)
-  degree_count (other g apart) = counts.other (degree_count g) apart
+  many_false : (n : ℕ) → pick n ≡ false → how_many pick (suc n) ≡ how_many pick n
+  many_false n e = ap (λ b. cond b (suc (how_many pick n)) (how_many pick n)) e
 
-  none_named : {left : ℕ → Bool} {n d x : ℕ} → Degree y left p n d x → d ≡ 0 → x ≡ 0
-  none_named start e = refl
-  none_named (one g l h) e = absurd (omega arith)
-  none_named (other g apart) e = none_named g e
+  xor_true : (n : ℕ) → pick n ≡ true → xor_of pick (suc n) ≡ bit_xor (xor_of pick n) n
+  xor_true n e = ap (λ b. cond b (bit_xor (xor_of pick n) n) (xor_of pick n)) e
 
-  -- a degree of one names the track
-  pub one_named : {left : ℕ → Bool} {n d x : ℕ} → Degree y left p n d x → d ≡ 1 → (x < n) × LeftAt left x
-  one_named start e = absurd (omega arith)
-  one_named {left} (one {n = n} {d = d} {x = x} g l h) e =
-      let named : n ≡ bit_xor x n = sym (xor_zero_l n) ∙ ap (λ z. bit_xor z n) (sym (none_named g (omega arith))) in
-      (omega (arith, named), subst (LeftAt left) named (l, h))
-  one_named (other g apart) e = let w = one_named g e in (omega (arith, w.0), w.1)
+  xor_false : (n : ℕ) → pick n ≡ false → xor_of pick (suc n) ≡ xor_of pick n
+  xor_false n e = ap (λ b. cond b (bit_xor (xor_of pick n) n) (xor_of pick n)) e
 
-  -- and no other track is left there
-  pub one_alone : {left : ℕ → Bool} {n d x : ℕ} → Degree y left p n d x → d ≡ 1 → (t : ℕ) → t < n → LeftAt left t → t ≡ x
-  one_alone {x = x} g e t h l =
-      let w = one_named g e in
-      ⊎_elim (λ same. same) (λ ne. let two = count_two (degree_count g) h w.0 ne l w.1 in absurd (omega arith)) (cases_eq t x)
+  -- one number more, picked or not
+  pub picked_more : (n : ℕ) → pick n ≡ true → (how_many pick (n + 1) ≡ how_many pick n + 1) × (xor_of pick (n + 1) ≡ bit_xor (xor_of pick n) n)
+  picked_more n e = (ap (how_many pick) (add-one n) ∙ many_true n e ∙ sym (add-one _), ap (xor_of pick) (add-one n) ∙ xor_true n e)
 
-  -- a point where one track alone is left has degree one
-  pub leaf_degree : {left : ℕ → Bool} {n d x : ℕ} → Degree y left p n d x → (t : ℕ) → t < n → LeftAt left t → ((u : ℕ) → left u ≡ true → Touches y u p → u ≡ t) → d ≡ 1
-  leaf_degree {d = d} g t h l alone =
-      let some = count_some (degree_count g) h l in
-      ⊎_elim (λ few. omega arith) (λ more. let w = counted_other t (degree_count g) more in absurd (w.1 (alone w.0 w.2.0 w.2.1))) (cases_lt d 2)
+  pub picked_same : (n : ℕ) → pick n ≡ false → (how_many pick (n + 1) ≡ how_many pick n) × (xor_of pick (n + 1) ≡ xor_of pick n)
+  picked_same n e = (ap (how_many pick) (add-one n) ∙ many_false n e, ap (xor_of pick) (add-one n) ∙ xor_false n e)
 
-  -- what is left elsewhere does not matter
-  pub degree_like : {left left' : ℕ → Bool} {n d x : ℕ} → ((u : ℕ) → u < n → Touches y u p → left' u ≡ left u) → Degree y left p n d x → Degree y left' p n d x
-  degree_like same start = start
-  degree_like same (one {n = n} g l h) = one (degree_like (λ u lt. same u (omega arith)) g) (same n (omega arith) h ∙ l) h
-  degree_like same (other {n = n} g apart) = other (degree_like (λ u lt. same u (omega arith)) g) (λ w. apart (sym (same n (omega arith) w.1) ∙ w.0, w.1))
+  pub many_le : (n : ℕ) → how_many pick n ≤ n
+  many_le zero = omega arith
+  many_le (suc n) = let l = many_le n in ⊎_elim (λ t. omega (arith, many_true n t)) (λ f. omega (arith, many_false n f)) (cases_Bool (pick n))
 
-  -- the track t taken off
-  pub degree_off : {left left' : ℕ → Bool} {n d x : ℕ} (t : ℕ) → left' t ≡ false → ((u : ℕ) → u ≢ t → left' u ≡ left u) → Degree y left p n d x → t < n → LeftAt left t → (1 ≤ d) × Degree y left' p n (d - 1) (bit_xor x t)
-  degree_off t gone same start lt w = absurd (omega arith)
-  degree_off {left' = left'} t gone same (one {n = n} {d = d} {x = x} g l h) lt w =
+  none_xor : (n : ℕ) → how_many pick n ≡ 0 → xor_of pick n ≡ 0
+  none_xor zero e = refl
+  none_xor (suc n) e = ⊎_elim (λ t. absurd (omega (arith, many_true n t))) (λ f. xor_false n f ∙ none_xor n (sym (many_false n f) ∙ e)) (cases_Bool (pick n))
+
+  none_picked : (n t : ℕ) → how_many pick n ≡ 0 → t < n → pick t ≡ false
+  none_picked zero t e h = absurd (omega arith)
+  none_picked (suc n) t e h =
+      ⊎_elim
+      (λ on. absurd (omega (arith, many_true n on)))
+      (λ off. ⊎_elim (λ same. ap pick same ∙ off) (λ ne. none_picked n t (sym (many_false n off) ∙ e) (omega arith)) (cases_eq t n))
+      (cases_Bool (pick n))
+
+  -- t alone is picked
+  pub record Single (n t : ℕ) : Type 0 where
+    pub low : t < n
+    pub picked : pick t ≡ true
+    pub only : (u : ℕ) → u < n → pick u ≡ true → u ≡ t
+
+  -- where one number is picked, the exclusive or is that number
+  pub single : (n : ℕ) → how_many pick n ≡ 1 → Single n (xor_of pick n)
+  single zero e = absurd (omega arith)
+  single (suc n) e =
+      ⊎_elim
+      (λ on.
+      let none : how_many pick n ≡ 0 = omega (arith, many_true n on) in
+      let is : n ≡ xor_of pick (suc n) = sym (xor_zero_l n) ∙ ap (λ x. bit_xor x n) (sym (none_xor n none)) ∙ sym (xor_true n on) in
+      record {
+        low = omega arith;
+        picked = ap pick (sym is) ∙ on;
+        only = λ u h q. ⊎_elim (λ same. same ∙ is) (λ ne. absurd (true≢false (sym q ∙ none_picked n u none (omega arith)))) (cases_eq u n);
+      })
+      (λ off.
+      let w = single n (sym (many_false n off) ∙ e) in
+      let is : xor_of pick n ≡ xor_of pick (suc n) = sym (xor_false n off) in
+      record {
+        low = omega (arith, w.low);
+        picked = ap pick (sym is) ∙ w.picked;
+        only = λ u h q. ⊎_elim (λ same. absurd (true≢false (sym q ∙ ap pick same ∙ off))) (λ ne. w.only u (omega (arith, ne)) q ∙ is) (cases_eq u n);
+      })
+      (cases_Bool (pick n))
+
+  no_more : (n : ℕ) → ((u : ℕ) → u < n → pick u ≡ false) → how_many pick n ≡ 0
+  no_more zero none = refl
+  no_more (suc n) none = many_false n (none n (omega arith)) ∙ no_more n (λ u h. none u (omega arith))
+
+  -- and where one alone is picked, there is one
+  pub one_single : (n t : ℕ) → Single n t → how_many pick n ≡ 1
+  one_single zero t w = absurd (omega (arith, w.low))
+  one_single (suc n) t w =
+      ⊎_elim
+      (λ on.
+      let is = w.only n (omega arith) on in
+      let none = no_more n (λ u h. ⊎_elim (λ q. absurd (let e = w.only u (omega arith) q in omega arith)) (λ q. q) (cases_Bool (pick u))) in
+      omega (arith, many_true n on))
+      (λ off.
+      let ne : t ≢ n = λ e. true≢false (sym w.picked ∙ ap pick e ∙ off) in
+      many_false n off ∙ one_single n t (record { low = omega (arith, ne, w.low); picked = w.picked; only = λ u h q. w.only u (omega arith) q }))
+      (cases_Bool (pick n))
+
+module _ (pick pick' : ℕ → Bool) where
+  -- picked alike
+  pub picked_like : (n : ℕ) → ((u : ℕ) → u < n → pick' u ≡ pick u) → (how_many pick' n ≡ how_many pick n) × (xor_of pick' n ≡ xor_of pick n)
+  picked_like zero same = (refl, refl)
+  picked_like (suc n) same =
+      let w = picked_like n (λ u h. same u (omega arith)) in
+      let e = same n (omega arith) in
+      ⊎_elim
+      (λ on.
+      (many_true pick' n (e ∙ on) ∙ ap suc w.0 ∙ sym (many_true pick n on), xor_true pick' n (e ∙ on) ∙ ap (λ x. bit_xor x n) w.1 ∙ sym (xor_true pick n on)))
+      (λ off.
+      (many_false pick' n (e ∙ off) ∙ w.0 ∙ sym (many_false pick n off), xor_false pick' n (e ∙ off) ∙ w.1 ∙ sym (xor_false pick n off)))
+      (cases_Bool (pick n))
+
+  -- all but t
+  pub picked_off : (t : ℕ) → pick t ≡ true → pick' t ≡ false → ((u : ℕ) → u ≢ t → pick' u ≡ pick u) → (n : ℕ) → t < n
+      → (how_many pick n ≡ how_many pick' n + 1) × (xor_of pick' n ≡ bit_xor (xor_of pick n) t)
+  picked_off t was gone same zero h = absurd (omega arith)
+  picked_off t was gone same (suc n) h =
       ⊎_elim
       (λ e.
-      let rest = other (degree_like (λ u low _. same u (omega arith)) g) (λ v. true≢false (sym (subst (λ (k : ℕ). left' k ≡ true) e v.0) ∙ gone)) in
-      let fewer : d ≡ suc d - 1 = omega arith in
-      let off : x ≡ bit_xor (bit_xor x n) t = sym (xor_gone x n) ∙ ap (bit_xor (bit_xor x n)) e in
-      (omega arith, subst (λ (k : ℕ). Degree y left' p (suc n) k (bit_xor (bit_xor x n) t)) fewer (subst (λ (z : ℕ). Degree y left' p (suc n) d z) off rest)))
+      let on : pick n ≡ true = ap pick (sym e) ∙ was in
+      let off : pick' n ≡ false = ap pick' (sym e) ∙ gone in
+      let w = picked_like n (λ u l. same u (omega arith)) in (
+        omega (arith, many_true pick n on, many_false pick' n off, w.0),
+        xor_false pick' n off ∙ w.1 ∙ sym (xor_gone (xor_of pick n) n) ∙ ap (bit_xor (bit_xor (xor_of pick n) n)) (sym e) ∙ ap (λ x. bit_xor x t) (sym (xor_true pick n on)),
+      ))
       (λ ne.
-      let less = degree_off t gone same g (omega (arith, ne)) w in
-      let fewer : suc (d - 1) ≡ suc d - 1 = omega (arith, less.0) in
-      (omega arith, subst (λ (k : ℕ). Degree y left' p (suc n) k (bit_xor (bit_xor x n) t)) fewer (subst (λ (z : ℕ). Degree y left' p (suc n) (suc (d - 1)) z) (xor_swap x t n) (one less.1 (same n ne ∙ l) h))))
-      (cases_eq n t)
-  degree_off {left} t gone same (other {n = n} g apart) lt w =
+      let w = picked_off t was gone same n (omega (arith, ne)) in
+      let e = same n (λ q. ne (sym q)) in
       ⊎_elim
-      (λ e. absurd (apart (subst (LeftAt left) (sym e) w)))
-      (λ ne. let less = degree_off t gone same g (omega (arith, ne)) w in (less.0, other less.1 (λ v. apart (sym (same n ne) ∙ v.0, v.1))))
-      (cases_eq n t)
+      (λ on. (
+        omega (arith, many_true pick n on, many_true pick' n (e ∙ on), w.0),
+        xor_true pick' n (e ∙ on) ∙ ap (λ x. bit_xor x n) w.1 ∙ xor_swap (xor_of pick n) t n ∙ ap (λ x. bit_xor x t) (sym (xor_true pick n on)),
+      ))
+      (λ off. (
+        omega (arith, many_false pick n off, many_false pick' n (e ∙ off), w.0),
+        xor_false pick' n (e ∙ off) ∙ w.1 ∙ ap (λ x. bit_xor x t) (sym (xor_false pick n off)),
+      ))
+      (cases_Bool (pick n)))
+      (cases_eq t n)

@@ -1,12 +1,12 @@
 -- The labelling that is written is the one that there is. Assumes nothing.
-use Rattle.std.proofs.Common.{◌≡◌, ℕ, ◌<◌, ◌≤◌, Bool, true, false, ◌≢◌, List, length, get_or, take, Decides, sym, ◌∙◌, subst, ⊎_elim, arith}
+use Rattle.std.proofs.Common.{◌≡◌, ℕ, ◌<◌, ◌≤◌, Bool, true, List, length, take, Decides, sym, ◌∙◌, subst, ⊎_elim, arith}
 use Rattle.std.proofs.lemmas.List.{get_or_past}
 use Rattle.std.proofs.lemmas.Bool.{cases_Bool, cases_lt, true≢false}
 use Rattle.std.proofs.lemmas.Bool.Decides.{not_from_Decides}
 use Rattle.network.specs.Tracks.{Points}
 use Rattle.network.specs.declared.track.Track.{Track}
 use Rattle.label.specs.Groups.{Group}
-use Rattle.graph.specs.Degrees.{flagged}
+use Rattle.graph.specs.Degrees.{flagged, NoneAlone}
 use Rattle.graph.specs.Forests.{InForest, WordsNeeded}
 use Rattle.graph.specs.Yards.{track}
 use Rattle.graph.proofs.Decide.{joined_or}
@@ -19,15 +19,18 @@ use Rattle.circulation.proofs.Unique.{chords, same_labels, labelling_unique}
 use Rattle.labelling.specs.Settled.{Known, ChordsDrawn}
 use Rattle.labelling.specs.Told.{TheLabelling}
 use Rattle.graph.proofs.Counting.{count_before}
-use Rattle.labelling.proofs.Followed.{Sound}
+use Rattle.labelling.specs.declared.ends.End.TheVariants.{First, Second}
+use Rattle.labelling.specs.declared.leaves.Leaves.{Leaves}
 use Rattle.labelling.proofs.Points.{end_low}
+use Rattle.yard.specs.Meaning.{yard_tracks}
 
 module _ {K : Type 0} (G : Group K) (y : List Track) where
-  -- where no point is a leaf, all is settled
-  pub all_settled : (points : Points y) (left : List Bool) (counts names : List ℕ) (L ks : List K) → Sound y left counts names → ((p : ℕ) → p < 512 → get_or counts p 0 ≢ 1) → length ks ≡ length y → Balanced G y L → Known G L ks left → ks ≡ L
-  all_settled points left counts names L ks s quiet long b k =
+  -- where no track is alone at a point, all is settled
+  pub all_settled : (s : Leaves) → yard_tracks s.yard.now ≡ y → (L ks : List K) → ((p : ℕ) → p < 512 → NoneAlone y s.left p) → length ks ≡ length y → Balanced G y L → Known G L ks s.left → ks ≡ L
+  all_settled s same L ks quiet long b k =
+      let points = subst Points same s.yard.now.points in
       same_labels G ks L (long ∙ sym b.one_each) (λ t.
-      k.settled t (none_left y left counts names s.forest (λ u f. let low = open_within y u f.0 in (end_low y false u low points, end_low y true u low points)) s.degrees quiet t))
+      k.settled t (none_left y s.left (subst (λ (z : List Track). (u : ℕ) → flagged s.left u ≡ true → InForest z u) same s.forest) (λ u f. let low = open_within y u f.0 in (end_low y First u low points, end_low y Second u low points)) quiet t))
 
   module _ (drawn : ℕ → K) (ks : List K) (long : length ks ≡ length y) (d : ChordsDrawn G y drawn ks (length y)) where
     -- with the chords drawn, the forest alone is to be settled

@@ -1,7 +1,7 @@
 pub mod Points
 mod Bounds
 mod Flags
+mod Chorded
 mod Counted
 mod Followed
-mod Chorded
 mod Labelled

@@ -1,2 +1,4 @@
+pub mod Degrees
+pub mod Ends
 pub mod Settled
 pub mod Told

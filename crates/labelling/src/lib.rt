@@ -3,7 +3,10 @@
 
 mod balance;
 mod chains;
-mod chords;
+mod degrees;
+mod ends;
+mod forest;
+mod incidence;
 mod leaves;
 mod settling;
 mod writing;

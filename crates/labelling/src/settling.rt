@@ -1,14 +1,13 @@
 // The labels of the forest, from leaves to roots.
-ghost use Rattle.std.specs.Prelude.{◌≡◌, ℕ, ◌<◌, ◌≤◌, true, false, ◌≢◌, ◌⊎◌, List, length, if◌then◌else◌, nat_eq, slice_index, slice_set};
-ghost use Rattle.network.specs.Tracks.{Points};
-ghost use Rattle.graph.specs.Degrees.{flagged, Degrees};
-ghost use Rattle.graph.specs.Forests.{InForest};
-ghost use Rattle.circulation.specs.Chains.{Chained};
+ghost use Rattle.std.specs.Prelude.{◌≡◌, ℕ, ◌<◌, ◌⊎◌, List, length, if◌then◌else◌, nat_eq, slice_set};
+ghost use Rattle.graph.specs.Degrees.{NoneAlone};
 ghost use Rattle.circulation.specs.Labellings.{owed};
 ghost use Rattle.circulation.specs.Labels.{Balanced};
 ghost use Rattle.labelling.specs.Settled.{Known};
+ghost use Rattle.yard.specs.Meaning.{yard_tracks};
 
-use crate::chains::Chains;
+use crate::forest::Forest;
+use crate::incidence::Incidence;
 use crate::leaves::Leaves;
 use label::Label;
 use network::POINTS;
@@ -26,25 +25,14 @@ fn other_end(one: Track, point: u16) -> u16
 }
 
 // Gives a track what balances one of its ends: it carries zero, and all others at that point have their labels.
-fn settle<K: Label>(
-    tracks: &[Track],
-    leaving: &Chains,
-    entering: &Chains,
-    labels: &mut [K],
-    number: usize,
-    point: u16,
-)
-    requires few { length tracks.now ≤ 2048 }
-    requires long { length labels.old ≡ length tracks.now }
-    requires leave { Chained leaving.now.heads leaving.now.links false tracks.now (length tracks.now) }
-    requires enter { Chained entering.now.heads entering.now.links true tracks.now (length tracks.now) }
-    requires there { number < length tracks.now }
+fn settle<K: Label>(incidence: &Incidence, labels: &mut [K], number: usize, point: u16)
+    requires long { length labels.old ≡ length (yard_tracks incidence.now.yard.now) }
+    requires there { number < length labels.old }
     requires at { point < 512 }
-    ensures { labels.new ≡ slice_set labels.old number (owed K.group tracks.now labels.old number point) }
+    ensures { labels.new ≡ slice_set labels.old number (owed K.group (yard_tracks incidence.now.yard.now) labels.old number point) }
 {
-    let out = leaving.sum_at(tracks, false, labels, point as usize);
-    let into = entering.sum_at(tracks, true, labels, point as usize);
-    let owed = if tracks[number].first == point {
+    let (out, into) = incidence.sums_at(labels, point as usize);
+    let owed = if incidence.yard.tracks()[number].first == point {
         into.sum(&out.opposite())
     } else {
         out.sum(&into.opposite())
@@ -53,49 +41,30 @@ fn settle<K: Label>(
 }
 
 // Goes on from a point as long as one track is left there: settles it, takes it off, and goes to its other end.
-fn follow<K: Label>(
-    tracks: &[Track],
-    leaving: &Chains,
-    entering: &Chains,
-    leaves: &mut Leaves,
-    labels: &mut [K],
-    start: u16,
-)
-    requires few { length tracks.now ≤ 2048 }
-    requires points { Points tracks.now }
-    requires long { length labels.old ≡ length tracks.now }
-    requires leave { Chained leaving.now.heads leaving.now.links false tracks.now (length tracks.now) }
-    requires enter { Chained entering.now.heads entering.now.links true tracks.now (length tracks.now) }
+fn follow<K: Label>(incidence: &Incidence, leaves: &mut Leaves, labels: &mut [K], start: u16)
+    requires yard { yard_tracks leaves.old.yard.now ≡ yard_tracks incidence.now.yard.now }
+    requires long { length labels.old ≡ length (yard_tracks incidence.now.yard.now) }
     requires start { start < 512 }
-    requires forest { (t : ℕ) → flagged leaves.old.left t ≡ true → InForest tracks.now t }
-    requires degrees { Degrees tracks.now leaves.old.left leaves.old.counts leaves.old.names (length tracks.now) }
-    ensures forest { (t : ℕ) → flagged leaves.new.left t ≡ true → InForest tracks.now t }
-    ensures degrees { Degrees tracks.now leaves.new.left leaves.new.counts leaves.new.names (length tracks.now) }
-    ensures known { (L : List K) → Balanced K.group tracks.now L → Known K.group L labels.old leaves.old.left → Known K.group L labels.new leaves.new.left }
-    ensures done { (p : ℕ) → p < 512 → (p ≡ start) ⊎ (slice_index leaves.old.counts p ≢ 1) → slice_index leaves.new.counts p ≢ 1 }
+    ensures yard { yard_tracks leaves.new.yard.now ≡ yard_tracks incidence.now.yard.now }
+    ensures known { (L : List K) → Balanced K.group (yard_tracks incidence.now.yard.now) L → Known K.group L labels.old leaves.old.left → Known K.group L labels.new leaves.new.left }
+    ensures done { (p : ℕ) → p < 512 → (p ≡ start) ⊎ NoneAlone (yard_tracks incidence.now.yard.now) leaves.old.left p → NoneAlone (yard_tracks incidence.now.yard.now) leaves.new.left p }
 {
     let mut at = start;
-    while let Some(number) = leaves.only_at(at) {
-        let one = tracks[number];
-        settle(tracks, leaving, entering, labels, number, at);
-        leaves.take_off(number, one);
-        at = other_end(one, at);
+    while let Some(number) = leaves.alone_at(at) {
+        settle(incidence, labels, number, at);
+        leaves.take_off(number);
+        at = other_end(incidence.yard.tracks()[number], at);
     }
 }
 
-// Settles all tracks that are left, which are the forest: labels that balance and agree with what is settled at first are
-// then written whole.
-pub(crate) fn settle_forest<K: Label>(tracks: &[Track], leaves: &mut Leaves, labels: &mut [K])
-    requires few { length tracks.now ≤ 2048 }
-    requires points { Points tracks.now }
-    requires long { length labels.old ≡ length tracks.now }
-    requires forest { (t : ℕ) → flagged leaves.old.left t ≡ true → InForest tracks.now t }
-    requires degrees { Degrees tracks.now leaves.old.left leaves.old.counts leaves.old.names (length tracks.now) }
-    ensures { (L : List K) → Balanced K.group tracks.now L → Known K.group L labels.old leaves.old.left → labels.new ≡ L }
+// Settles all tracks of the forest: labels that balance and agree with what is settled at first are then written whole.
+pub(crate) fn settle_forest<K: Label>(forest: &Forest, labels: &mut [K])
+    requires { length labels.old ≡ length (yard_tracks forest.now.yard.now) }
+    ensures { (L : List K) → Balanced K.group (yard_tracks forest.now.yard.now) L → Known K.group L labels.old forest.now.flags → labels.new ≡ L }
 {
-    let leaving = Chains::of(tracks, false);
-    let entering = Chains::of(tracks, true);
+    let incidence = Incidence::of(forest.yard);
+    let mut leaves = Leaves::of(forest);
     for point in 0..POINTS {
-        follow(tracks, &leaving, &entering, leaves, labels, point as u16);
+        follow(&incidence, &mut leaves, labels, point as u16);
     }
 }

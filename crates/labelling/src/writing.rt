@@ -1,11 +1,10 @@
 // The one labelling that words draw.
-ghost use Rattle.std.specs.Prelude.{◌≡◌, length, slice_index};
+ghost use Rattle.std.specs.Prelude.{length, slice_index};
 ghost use Rattle.network.specs.Refusals.{numbered};
 ghost use Rattle.yard.specs.Meaning.{yard_tracks};
 ghost use Rattle.labelling.specs.Told.{LabelAnswer};
 
-use crate::chords::{chord_count, draw_chords};
-use crate::leaves::Leaves;
+use crate::forest::Forest;
 use crate::settling::settle_forest;
 use label::Label;
 use network::track::Refusal;
@@ -21,16 +20,15 @@ pub fn label_tracks<K: Label>(
 ) -> Result<usize, Refusal>
     ensures { LabelAnswer K.group (yard_tracks yard.now) (λ i. K.drawn (slice_index words.now i)) (length words.now) labels.old labels.new (numbered result) }
 {
-    let tracks = yard.tracks();
-    if labels.len() != tracks.len() {
+    if labels.len() != yard.tracks().len() {
         return Err(Refusal::WrongLength);
     }
-    let mut leaves = Leaves::of(yard);
-    let needed = chord_count(tracks, leaves.flags());
+    let forest = Forest::of(yard);
+    let needed = forest.chord_count();
     if words.len() < needed {
         return Err(Refusal::TooFewWords);
     }
-    draw_chords(tracks, leaves.flags(), words, labels);
-    settle_forest(tracks, &mut leaves, labels);
+    forest.draw_chords(words, labels);
+    settle_forest(&forest, labels);
     Ok(needed)
 }

@@ -1,14 +1,22 @@
-use Rattle.std.proofs.Common.{sym, ◌∙◌, arith, below_more}
-use Rattle.std.proofs.lemmas.Bool.{both_ways}
-use Rattle.labelling.proofs.Bounds.{decides_true, decides_false, at_all_points}
+use Rattle.std.proofs.Common.{◌≡◌, ℕ, ◌+◌, List, Decides, ◌∙◌, subst, refl, arith, rules}
+use Rattle.std.proofs.lemmas.Iterator.{cases_from_all, YieldsList-from_range}
+use Rattle.std.proofs.lemmas.Grind.{common_steps}
+use Rattle.std.proofs.lemmas.List.FromFn.{get_or-range_with_len, length-range_with_len}
+use Rattle.network.specs.declared.track.Track.{Track}
+use Rattle.circulation.specs.Labels.{total, leaves_from, enters_at}
+use Rattle.labelling.proofs.Bounds.{decides_match, at_all_points}
+use Rattle.yard.specs.Meaning.{yard_tracks}
 use Rattle.labelling.proofs.balance.each_point_balances.Goals as goal
 
-pub returns-then-not-same : goal.returns-then-not-same
-returns-then-not-same g c =
-    decides_false (λ all. both_ways c.same.result c.if-not-same.true (c.same.ensures.1 (c.sum_at-out.ensures ∙ all c.loop-point.point ∙ sym c.sum_at-into.ensures)))
-
-pub loop-point-preserved : goal.loop-point-preserved
-loop-point-preserved g c = below_more _ _ c.loop-point.invariant (sym c.sum_at-out.ensures ∙ c.same.ensures.0 c.if-not-same.false ∙ c.sum_at-into.ensures)
-
 pub returns : goal.returns
-returns g c = decides_true (at_all_points g.K.Label.group c.args.tracks.now c.args.labels.now c.requires.points c.loop-point.point (omega arith) c.loop-point.invariant)
+returns g c =
+    let y = yard_tracks c.of-incidence.result.yard.now in
+    let ks = c.args.labels.now in
+    let G = g.K.Label.group in
+    subst (λ (z : List Track). Decides c.all.result ((p : ℕ) → total G (leaves_from p) z ks ≡ total G (enters_at p) z ks)) c.of-incidence.ensures
+    (decides_match c.all.result
+    (cases_from_all c.all.new.self _ c.all.result (λ p. total G (leaves_from p) y ks ≡ total G (enters_at p) y ks) (λ p. ¬ (total G (leaves_from p) y ks ≡ total G (enters_at p) y ks)) c.all.ensures.ran
+    (YieldsList-from_range 0 512 512 refl refl)
+    (λ x q k. (search rules, grind (arith, common_steps))) (λ x q k e. grind (arith, common_steps)))
+    (λ all. at_all_points G y ks c.of-incidence.result.yard.now.points (λ p h. subst (λ (q : ℕ). total G (leaves_from q) y ks ≡ total G (enters_at q) y ks) (get_or-range_with_len 0 512 p 0 h ∙ (let e : 0 + p ≡ p = omega arith in e)) (all p 0 (omega arith) (omega (arith, length-range_with_len 0 512)))))
+    (λ some zero. some.2 0 (zero _)))

@@ -1,33 +1,21 @@
-use Rattle.std.proofs.Common.{◌≡◌, ◌<◌, true, length, sym, ap, ◌∙◌, arith, below_more}
-use Rattle.std.proofs.lemmas.List.{get_or_read}
-use Rattle.std.proofs.lemmas.Bool.{both_ways}
-use Rattle.graph.specs.Yards.{track}
-use Rattle.graph.proofs.Fronts.{blank, read}
-use Rattle.labelling.proofs.Bounds.{decides_true, decides_false, all_shut_zero}
+use Rattle.std.proofs.Common.{◌≡◌, true, sym, ap, ◌∙◌, arith, rules}
+use Rattle.std.proofs.lemmas.Iterator.{cases_from_all, YieldsList-from_slice, YieldsList-from_zip}
+use Rattle.std.proofs.lemmas.Slice.Zip.{get_or-zip, length-zip}
+use Rattle.std.proofs.lemmas.Grind.{common_steps}
+use borrow.Author.Tests.{tests}
+use Rattle.graph.specs.Yards.{none}
+use Rattle.labelling.proofs.Bounds.{decides_match, all_shut_zero}
 use Rattle.labelling.proofs.balance.shut_carry_zero.Goals as goal
-use Rattle.labelling.proofs.balance.shut_carry_zero.Goals.{else-tracks-number-via-then-tracks-number+else-not-same, else-tracks-number-via-else-tracks-number}
-
-pub returns-then-not-same : goal.returns-then-not-same
-returns-then-not-same g c =
-    let y = c.args.tracks.now in
-    let ks = c.args.labels.now in
-    let n = c.loop-number.number in
-    let low : n < length ks = let long = c.requires in omega arith in
-    decides_false (λ all.
-    let shut : (track y n).shut ≡ true = ap (λ x. x.shut) (sym (read y n blank c.loop-number-test.true)) ∙ c.if-tracks-number.true in
-    both_ways c.same.result c.if-not-same.true (c.same.ensures.1 (get_or_read ks n _ low c.index-labels-number.is g.K.Label.group.zero ∙ all n shut ∙ sym c.zero-zero.ensures)))
-
-pub loop-number-preserved : goal.loop-number-preserved
-loop-number-preserved g c =
-    let y = c.args.tracks.now in
-    let ks = c.args.labels.now in
-    let n = c.loop-number.number in
-    let low : n < length ks = let long = c.requires in omega arith in
-    below_more _ _ c.loop-number.invariant
-    (elim c.else-tracks-number.branch [
-      | else-tracks-number-via-then-tracks-number+else-not-same w ↦ λ _. sym (get_or_read ks n _ low w.index-labels-number.is g.K.Label.group.zero) ∙ w.same.ensures.0 w.if-not-same.false ∙ c.zero-zero.ensures
-      | else-tracks-number-via-else-tracks-number w ↦ λ s. absurd (both_ways (track y n).shut (ap (λ x. x.shut) (sym (read y n blank c.loop-number-test.true)) ∙ w.if-tracks-number.false) s)
-    ])
 
 pub returns : goal.returns
-returns g c = decides_true (all_shut_zero g.K.Label.group c.args.tracks.now c.args.labels.now c.requires c.loop-number.number (omega arith) c.loop-number.invariant)
+returns g c =
+    let y = c.args.tracks.now in
+    let ks = c.args.labels.now in
+    let G = g.K.Label.group in
+    decides_match c.all.result
+    (cases_from_all c.all.new.self _ c.all.result (λ p. p.0.shut ≡ true → p.1 ≡ G.zero) (λ p. (p.0.shut ≡ true) × ¬ (p.1 ≡ G.zero)) c.all.ensures.ran
+    (YieldsList-from_zip (YieldsList-from_slice y (ap (λ i. i.rest.now) c.zip.ensures.first ∙ c.iter.ensures.rest)) (YieldsList-from_slice ks (search rules)))
+    (λ x q k. (search rules, λ s. grind (arith, common_steps))) (λ x q k. (search (rules, tests), λ z. grind (arith, common_steps))))
+    (λ all. all_shut_zero G y ks c.requires (λ t h s. let e = get_or-zip y ks t (none, G.zero) h (let long = c.requires in omega arith) in ap (λ p. p.1) (sym e) ∙ all t (none, G.zero) (omega arith) (omega (arith, length-zip y ks, c.requires)) (ap (λ p. p.0.shut) e ∙ s)))
+    (λ some zero. let e = get_or-zip y ks some.0 (none, G.zero) (let low = some.1 in omega (arith, length-zip y ks)) (let low = some.1 in omega (arith, length-zip y ks)) in
+    let w = some.2 (none, G.zero) in w.1 (ap (λ p. p.1) e ∙ zero some.0 (ap (λ p. p.0.shut) (sym e) ∙ w.0)))

@@ -1,36 +1,49 @@
-use Rattle.std.proofs.Common.{◌-◌, ◌<◌, length, sym, ap, ◌∙◌, arith, rules}
+use Rattle.std.proofs.Common.{◌≡◌, ℕ, ◌+◌, ◌-◌, ◌<◌, ◌≢◌, List, length, get_or, sym, ap, ◌∙◌, arith}
 use Rattle.std.proofs.lemmas.List.{get_or_read}
-use Rattle.circulation.specs.Chains.{at_end}
-use Rattle.circulation.proofs.Chains.{total_below, along_start, along_le, along_falls, along_more, along_done}
+use Rattle.graph.specs.Yards.{track}
+use Rattle.label.specs.Groups.{Group}
+use Rattle.circulation.specs.Chains.{highest}
+use Rattle.circulation.proofs.Chains.{Along, highest_le, total_below, along_low, along_picked, along_more, along_done}
+use Rattle.labelling.specs.Ends.{at_end}
+use Rattle.labelling.specs.declared.chains.Chains.{Chains}
+use Rattle.labelling.proofs.Points.{yard_few}
+use Rattle.yard.specs.Meaning.{yard_tracks}
 use Rattle.labelling.proofs.chains.Chains.sum_at.Goals as goal
 
-pub loop-at-init : goal.loop-at-init
-loop-at-init g c = along_start g.K.Label.group _ _ _ _ _ _ c.zero-sum.ensures (c.requires.chained c.args.point c.requires.point)
+-- the track that is reached, and the next one
+module _ {K : Type 0} (G : Group K) (ks : List K) (s : Chains) (p : ℕ) {so_far : K} {at : ℕ} (a : Along G ks (λ t. at_end s.end p (track (yard_tracks s.yard.now) t)) (length (yard_tracks s.yard.now)) so_far at) (some : at ≢ 0) where
+  is : at ≡ at - 1 + 1
+  is = omega arith
 
-pub overflow_cast-track : goal.overflow_cast-track
-overflow_cast-track g c = let le = along_le _ _ _ _ _ c.loop-at.invariant in let few = c.requires.few in search rules
+  low : at - 1 < length (yard_tracks s.yard.now)
+  low = along_low G ks _ _ a (at - 1) is
+
+  next : get_or s.links (at - 1) 0 ≡ highest (λ t. at_end s.end p (track (yard_tracks s.yard.now) t)) (at - 1)
+  next = s.chained.1 p (at - 1) low (along_picked G ks _ _ a (at - 1) is)
 
 pub offset_bounds-labels-track : goal.offset_bounds-labels-track
-offset_bounds-labels-track g c = let le = along_le _ _ _ _ _ c.loop-at.invariant in let long = c.requires.long in omega arith
+offset_bounds-labels-track g c = let h = low _ _ c.args.self.now _ c.loop-at.invariant c.loop-at-test.true in let long = c.requires.long in omega arith
 
 pub bounds-labels-track : goal.bounds-labels-track
-bounds-labels-track g c = let le = along_le _ _ _ _ _ c.loop-at.invariant in let long = c.requires.long in omega arith
-
-pub offset_bounds-self-track : goal.offset_bounds-self-track
-offset_bounds-self-track g c = let le = along_le _ _ _ _ _ c.loop-at.invariant in let few = c.requires.few in let room = c.args.self.now.room in omega arith
+bounds-labels-track g c = let h = low _ _ c.args.self.now _ c.loop-at.invariant c.loop-at-test.true in let long = c.requires.long in omega arith
 
 pub bounds-self-track : goal.bounds-self-track
-bounds-self-track g c = let le = along_le _ _ _ _ _ c.loop-at.invariant in let few = c.requires.few in let room = c.args.self.now.room in omega arith
+bounds-self-track g c =
+    let h = low _ _ c.args.self.now _ c.loop-at.invariant c.loop-at-test.true in let few = yard_few c.args.self.now.yard.now in omega arith
 
 pub loop-at-smaller : goal.loop-at-smaller
-loop-at-smaller g c = along_falls _ _ _ _ _ (c.loop-at.at - 1) (omega arith) c.loop-at.invariant
+loop-at-smaller g c =
+    let some : c.loop-at.at ≢ 0 = c.loop-at-test.true in
+    omega (arith, next _ _ c.args.self.now _ c.loop-at.invariant some, highest_le (λ t. at_end c.args.self.now.end c.args.point (track (yard_tracks c.args.self.now.yard.now) t)) (c.loop-at.at - 1))
 
 pub loop-at-preserved : goal.loop-at-preserved
 loop-at-preserved g c =
-    let t = c.loop-at.at - 1 in
-    let ks = c.args.labels.now in
-    let low : t < length ks = let le = along_le _ _ _ _ _ c.loop-at.invariant in let long = c.requires.long in omega arith in
-    along_more _ _ _ _ _ t c.sum-sum.result (omega arith) (c.sum-sum.ensures ∙ ap (g.K.Label.group.sum c.loop-at.sum) (get_or_read ks t _ low c.index-labels-track.is g.K.Label.group.zero)) c.loop-at.invariant
+    let here = low _ _ c.args.self.now _ c.loop-at.invariant c.loop-at-test.true in
+    along_more _ _ _ _ c.loop-at.invariant (c.loop-at.at - 1) (is _ _ c.args.self.now _ c.loop-at.invariant c.loop-at-test.true) c.sum-sum.result _
+    (c.sum-sum.ensures ∙ ap (g.K.Label.group.sum c.loop-at.sum) (get_or_read c.args.labels.now _ _ (let long = c.requires.long in omega arith) c.index-labels-track.is g.K.Label.group.zero))
+    (next _ _ c.args.self.now _ c.loop-at.invariant c.loop-at-test.true)
 
 pub returns : goal.returns
-returns g c = along_done _ _ _ _ _ (omega arith) c.loop-at.invariant ∙ sym (total_below g.K.Label.group (at_end c.args.second c.args.point) c.args.tracks.now c.args.labels.now c.requires.long)
+returns g c =
+    along_done _ _ _ _ c.loop-at.invariant (omega arith)
+    ∙ sym (total_below g.K.Label.group (at_end c.args.self.now.end c.args.point) (yard_tracks c.args.self.now.yard.now) c.args.labels.now c.requires.long)

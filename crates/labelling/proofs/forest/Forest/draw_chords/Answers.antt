@@ -2,22 +2,24 @@ use Rattle.std.proofs.Common.{ℕ, ◌+◌, ◌<◌, length, get_or, sym, subst,
 use Rattle.graph.specs.Counts.{Count, start}
 use Rattle.graph.specs.Forests.{Chord}
 use Rattle.graph.proofs.Counting.{one_more, none_more, count_before}
-use Rattle.graph.proofs.Fronts.{blank, read}
 use Rattle.circulation.proofs.Unique.{chords}
 use Rattle.labelling.specs.Settled.{ChordsDrawn}
-use Rattle.labelling.proofs.Chorded.{chord_said, no_chord_said, drawn_more, zero_more}
-use Rattle.labelling.proofs.chords.draw_chords.Given as given
-use Rattle.labelling.proofs.chords.draw_chords.Goals as goal
-use Rattle.labelling.proofs.chords.draw_chords.Goals.{Then-is_chord, then-is_chord, else-is_chord}
+use Rattle.labelling.proofs.Chorded.{chord_told, no_chord_told, drawn_more, zero_more}
+use Rattle.labelling.proofs.Points.{read_low, read_is}
+use Rattle.yard.specs.Meaning.{yard_tracks}
+use Rattle.labelling.proofs.forest.Forest.draw_chords.Given as given
+use Rattle.labelling.proofs.forest.Forest.draw_chords.Goals as goal
+use Rattle.labelling.proofs.forest.Forest.draw_chords.Goals.{Then-is_chord, then-is_chord, else-is_chord}
 
 -- a word is there for this chord
 word_there : (g : given.Over) (c : Then-is_chord g) → c.loop-number.used < length c.args.words.now
 word_there g c =
-    let y = c.args.tracks.now in
+    let forest = c.args.self.now in
+    let y = yard_tracks forest.yard.now in
     let n = c.loop-number.number in
     let all = chords y (length y) in
-    let chord = chord_said y n _ _ (read y n blank c.loop-number-test.true) (c.requires.told n) c.if-is_chord.ensures in
-    let before = count_before c.loop-number.invariant.0 chord c.loop-number-test.true all.1 in
+    let chord = chord_told y n _ _ (read_is forest.yard.now _ c.tracks-one-items.ensures n c.loop-number-test.true) (forest.told n) _ c.is_chord.ensures c.if-is_chord.true in
+    let before = count_before c.loop-number.invariant.0 chord (read_low forest.yard.now _ c.tracks-one-items.ensures n c.loop-number-test.true) all.1 in
     let enough = c.requires.enough all.0 all.1 in
     omega arith
 
@@ -32,20 +34,21 @@ overflow_add-used g c = let h = word_there g (goal.at.overflow_add-used g c).The
 
 pub loop-number-preserved : goal.loop-number-preserved
 loop-number-preserved g c =
-    let y = c.args.tracks.now in
+    let forest = c.args.self.now in
+    let y = yard_tracks forest.yard.now in
     let n = c.loop-number.number in
     let ks = c.loop-number.labels in
     let drawn : ℕ → g.row.K.Denot = λ i. g.K.Label.drawn (get_or c.args.words.now i 0) in
-    let is = read y n blank c.loop-number-test.true in
-    let low : n < length ks = let long = c.requires.long in omega (arith, c.loop-number.auto.labels) in
+    let is = read_is forest.yard.now _ c.tracks-one-items.ensures n c.loop-number-test.true in
+    let low : n < length ks = let long = c.requires.long in omega (arith, c.loop-number.auto.labels, read_low forest.yard.now _ c.tracks-one-items.ensures n c.loop-number-test.true) in
     elim c.if-is_chord.branch [
       | then-is_chord w ↦
-          let chord = chord_said y n _ _ is (c.requires.told n) w.if-is_chord.ensures in (
+          let chord = chord_told y n _ _ is (forest.told n) _ c.is_chord.ensures w.if-is_chord.true in (
             subst (Count (Chord y) (n + 1)) (sym w.used-is) (one_more (Chord y) n c.loop-number.used c.loop-number.invariant.0 chord),
             subst (λ ls. ChordsDrawn g.K.Label.group y drawn ls (n + 1)) (sym w.labels-is) (drawn_more g.K.Label.group y drawn ks n low c.loop-number.invariant.1 _ c.loop-number.used c.loop-number.invariant.0 chord w.draw_word.ensures),
           )
       | else-is_chord w ↦
-          let none = no_chord_said y n _ _ is (c.requires.told n) w.if-is_chord.ensures in (
+          let none = no_chord_told y n _ _ is (forest.told n) _ c.is_chord.ensures w.if-is_chord.false in (
             subst (Count (Chord y) (n + 1)) (sym w.used-is) (none_more (Chord y) n c.loop-number.used c.loop-number.invariant.0 none),
             subst (λ ls. ChordsDrawn g.K.Label.group y drawn ls (n + 1)) (sym w.labels-is) (zero_more g.K.Label.group y drawn ks n low c.loop-number.invariant.1 _ none w.zero.ensures),
           )
