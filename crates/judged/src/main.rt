@@ -4,33 +4,32 @@
 
 use judging::judge;
 use label::xor::Xor;
-use listing::{MOST_BYTES, TOO_LONG, refused_text};
-use plan::read_plan;
+use listing::{read_file, read_input, refused_text};
 use sheet::record::Sheet;
 use std::env;
-use std::io::{Read, Write};
+use std::io::{Write, writer};
+use std::rt::Env;
 use table::Table;
 use written::write_sheet;
 use yard::Yard;
 
-// The labels, decimal numbers of 64 bits, one to an argument.
-fn labels_given(rt: &HostRuntime) -> anyhow::Result<Vec<Xor>> {
-    let mut labels = Vec::new(rt.alloc());
-    for argument in env::args(rt)?.skip(1) {
-        let bits = argument.parse::<u64>()?;
-        labels.push(Xor { bits })?;
-    }
-    Ok(labels)
+// The labels, decimal numbers of 64 bits, one to an argument. The program `labels` reads its words likewise; one function in a library
+// would need an error type for both, which is no plainer than this line.
+fn labels_given(rt: &(impl Env + AllocGlobal)) -> anyhow::Result<Vec<Xor>> {
+    env::args(rt)?
+        .skip(1)
+        .map(|bits| Ok(Xor {
+            bits: bits.parse()?,
+        }))
+        .try_collect(rt.alloc())
 }
 
 // Prints a sheet, and a line with its totals.
-fn print_sheet(rt: &HostRuntime, yard: &Yard, sheet: &Sheet) -> anyhow::Result<()> {
+fn print_sheet(rt: &(impl Print + AllocGlobal), yard: &Yard, sheet: &Sheet) -> anyhow::Result<()> {
     let mut bytes = vec![in rt.alloc(); 0u8; 65536]?;
-    if let Ok(length) = write_sheet(yard.tracks(), sheet, bytes.as_mut_slice()) {
-        if let Some(text) = bytes.get(..length) {
-            rt.stdout().write_all(text)?;
-        }
-    }
+    let length = write_sheet(yard.tracks(), sheet, bytes.as_mut_slice())?;
+    bytes.truncate(length);
+    writer(rt).write_all(bytes.as_slice())?;
     let totals = sheet.totals();
     let (singles, classes, pairs) = (totals.singles, totals.classes, totals.pairs);
     let tracks = yard.tracks().len();
@@ -41,9 +40,9 @@ fn print_sheet(rt: &HostRuntime, yard: &Yard, sheet: &Sheet) -> anyhow::Result<(
 }
 
 // Judges labels on the tracks of a plan.
-fn judge_plan(rt: &HostRuntime, input: &[u8], labels: &[Xor]) -> anyhow::Result<()> {
+fn judge_plan(rt: &(impl Print + AllocGlobal), input: &[u8], labels: &[Xor]) -> anyhow::Result<()> {
     let mut table = Table::new(rt.alloc())?;
-    if let Err(fault) = read_plan(input, &mut table) {
+    if let Err(fault) = read_file(input, &mut table) {
         let text = refused_text(rt.alloc(), fault)?;
         print!(rt; "{text}")?;
         return Ok(());
@@ -60,17 +59,9 @@ fn judge_plan(rt: &HostRuntime, input: &[u8], labels: &[Xor]) -> anyhow::Result<
     }
 }
 
-fn run(rt: &HostRuntime) -> anyhow::Result<()> {
+fn run(rt: &(impl Env + Input + Print + AllocGlobal)) -> anyhow::Result<()> {
     let labels = labels_given(rt)?;
-    let mut input = Vec::new(rt.alloc());
-    // one byte beyond the most tells that there are more
-    let most = MOST_BYTES as u64 + 1;
-    rt.stdin().take(most).read_to_end(&mut input)?;
-    if input.len() > MOST_BYTES {
-        let text = refused_text(rt.alloc(), TOO_LONG)?;
-        print!(rt; "{text}")?;
-        return Ok(());
-    }
+    let input = read_input(rt.alloc(), rt.reader())?;
     judge_plan(rt, input.as_slice(), labels.as_slice())
 }
 
