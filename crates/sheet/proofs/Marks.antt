@@ -7,6 +7,7 @@ use Rattle.graph.specs.Yards.{track, Open, Bridge, CutPair}
 use Rattle.graph.proofs.Classing.{some_class, one_class, in_one_class}
 use Rattle.sheet.specs.declared.mark.Mark.{Mark}
 use Rattle.sheet.specs.declared.mark.Mark.TheVariants.{Shut, Single, Mates, Alone}
+use Rattle.sheet.specs.Asked.{LeadMark, MateMarks}
 use Rattle.sheet.specs.Marks.{MarkOf, mark_at, MarksOf, is_mates, lead_in, size_in}
 
 module _ (y : List Track) (t : ℕ) where
@@ -74,21 +75,13 @@ module _ (y : List Track) (ms : List Mark) (right : MarksOf y ms) where
       go (Mates l s) a f = a
       go Alone a f = absurd (false≢true f)
 
-  -- t is marked mates with itself for a lead
-  abbrev pub IsLead : ℕ → Type 0
-  IsLead t = (is_mates (mark_at ms t) ≡ true) × (lead_in (mark_at ms t) ≡ t)
-
-  pub lead_class : (t : ℕ) → t < length y → IsLead t → LeadsClass y t
+  pub lead_class : (t : ℕ) → t < length y → LeadMark ms t → LeadsClass y t
   lead_class t h (m, e) = (size_in (mark_at ms t), subst (λ (l : ℕ). InClass y t l (size_in (mark_at ms t))) e (mates_class t h m))
 
-  pub class_lead : (t : ℕ) → t < length y → LeadsClass y t → IsLead t
+  pub class_lead : (t : ℕ) → t < length y → LeadsClass y t → LeadMark ms t
   class_lead t h (s, c) = let e = class_mates t t s h c in (ap is_mates e, ap lead_in e)
 
-  -- two tracks are marked mates with one lead
-  abbrev pub Together : ℕ → ℕ → Type 0
-  Together u t = (is_mates (mark_at ms u) ≡ true) × (is_mates (mark_at ms t) ≡ true) × (lead_in (mark_at ms u) ≡ lead_in (mark_at ms t))
-
-  pub together_pair : (u t : ℕ) → u < length y → t < length y → u ≢ t → Together u t → CutPair y u t
+  pub together_pair : (u t : ℕ) → u < length y → t < length y → u ≢ t → MateMarks ms u t → CutPair y u t
   together_pair u t k h ne (m, n, e) =
       let a = mates_class u k m in
       let b = mates_class t h n in
@@ -105,7 +98,7 @@ module _ (y : List Track) (ms : List Mark) (right : MarksOf y ms) where
       go (Mates l s) a = refl
       go Alone a = absurd (a.2 S c i)
 
-  pub pair_together : (u t : ℕ) → u < length y → t < length y → CutPair y u t → Together u t
+  pub pair_together : (u t : ℕ) → u < length y → t < length y → CutPair y u t → MateMarks ms u t
   pair_together u t k h p =
       let w = some_class y u t p in
       let mates-u = classed_mates u k w.0 w.1 w.2 p.open_first p.not_bridge_first in
