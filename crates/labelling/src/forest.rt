@@ -10,14 +10,7 @@ ghost use Rattle.yard.specs.Meaning.{yard_tracks};
 use label::Label;
 use network::TRACKS;
 use network::track::Track;
-use yard::Yard;
-
-// Whether a track is open and outside the forest.
-fn is_chord(one: &Track, in_forest: bool) -> bool
-    ensures { result ≡ not one.now.shut && not in_forest }
-{
-    !one.shut && !in_forest
-}
+use yard::{Yard, is_chord};
 
 // How many tracks are chords, by the flags of the forest.
 fn count_chords(tracks: &[Track], flags: &[bool]) -> usize
@@ -26,7 +19,7 @@ fn count_chords(tracks: &[Track], flags: &[bool]) -> usize
     tracks
         .iter()
         .zip(flags)
-        .filter(|(one, flag)| is_chord(one, **flag))
+        .filter(|(one, flag)| is_chord(**one, **flag))
         .count()
 }
 
@@ -71,7 +64,7 @@ impl<'a> Forest<'a> {
     {
         let mut used = 0;
         for (number, one) in self.yard.tracks().iter().enumerate() {
-            if is_chord(one, self.flags[number]) {
+            if is_chord(*one, self.flags[number]) {
                 labels[number] = draw_word(words, used);
                 used += 1;
             } else {

@@ -4,7 +4,8 @@ ghost use Rattle.sheet.specs.Marks.{WellLed};
 
 use crate::mark::Mark;
 
-// In every sheet a lead is a track marked mates with itself as lead, and no track's lead is above its own number.
+// In every sheet a lead is a track marked mates with itself as lead, and no track's lead is above its own number. Callers know this of
+// each sheet by its ghost fields; a Model's invariant they would not know.
 #[derive(Drop)]
 pub struct Sheet {
     pub(crate) letter: u8,

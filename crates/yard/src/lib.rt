@@ -12,6 +12,9 @@ mod making;
 mod partition;
 mod questions;
 
+pub use questions::is_chord;
+
+// Contracts see a yard by `yard_tracks` and not by a Model, whose callers would not know the limits: labelling and judging need them.
 #[derive(Drop)]
 pub struct Yard {
     records: Vec<Track>,

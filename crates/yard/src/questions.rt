@@ -14,11 +14,11 @@ use crate::{Class, Yard};
 use network::track::{Refusal, Track};
 use network::{POINTS, are_points};
 
-// Whether a track is open and joins nothing more.
-fn is_chord(one: Track, joins: bool) -> bool
-    ensures { result ≡ not one.shut && not joins }
+// Whether a track is a chord, by whether it is in the forest: it is open, and joins nothing more.
+pub fn is_chord(one: Track, in_forest: bool) -> bool
+    ensures { result ≡ not one.shut && not in_forest }
 {
-    !one.shut && !joins
+    !one.shut && !in_forest
 }
 
 impl Yard {
