@@ -1,6 +1,5 @@
 // The open tracks at each point, as chains.
 ghost use Rattle.std.specs.Prelude.{◌≡◌, ◌<◌, length};
-ghost use Rattle.std.proofs.Props.{props};
 ghost use Rattle.circulation.specs.Chains.{Chained};
 ghost use Rattle.circulation.specs.Labels.{total};
 ghost use Rattle.labelling.specs.Ends.{at_end};
@@ -22,7 +21,7 @@ pub(crate) struct Chains<'a> {
     links: [u16; TRACKS],
     ghost whole: { length heads ≡ 512 },
     ghost room: { length links ≡ 2048 },
-    ghost chained: { Chained (at_end end) (yard_tracks yard.now) heads links (length (yard_tracks yard.now)) } by { Prim.hlevel props },
+    ghost chained: { Chained (at_end end) (yard_tracks yard.now) heads links (length (yard_tracks yard.now)) },
 }
 
 impl<'a> Chains<'a> {

@@ -1,7 +1,6 @@
 // The forest of a yard and its chords, the open tracks outside the forest: how many there are, and what words draw for them.
 ghost use Rattle.std.specs.Prelude.{◌≡◌, ℕ, ◌<◌, ◌≤◌, not, ◌&&◌, count_by, length, Decides, slice_index};
 ghost use Rattle.std.specs.List.{zip};
-ghost use Rattle.std.proofs.Props.{props};
 ghost use Rattle.graph.specs.Degrees.{flagged};
 ghost use Rattle.graph.specs.Forests.{InForest, WordsNeeded};
 ghost use Rattle.labelling.specs.Settled.{ChordsDrawn};
@@ -37,7 +36,7 @@ pub(crate) struct Forest<'a> {
     pub(crate) yard: &'a Yard,
     pub(crate) flags: [bool; TRACKS],
     ghost room: { length flags ≡ 2048 },
-    ghost told: { (t : ℕ) → Decides (flagged flags t) (InForest (yard_tracks yard.now) t) } by { Prim.hlevel props },
+    ghost told: { (t : ℕ) → Decides (flagged flags t) (InForest (yard_tracks yard.now) t) },
 }
 
 impl<'a> Forest<'a> {
@@ -62,6 +61,7 @@ impl<'a> Forest<'a> {
         requires enough { (m : ℕ) → WordsNeeded (yard_tracks self.now.yard.now) m → m ≤ length words.now }
         ensures { ChordsDrawn K.group (yard_tracks self.now.yard.now) (λ i. K.drawn (slice_index words.now i)) labels.new (length (yard_tracks self.now.yard.now)) }
     {
+        // As a count of the words used: an iterator over the words would need an arm for where they run out.
         let mut used = 0;
         for (number, one) in self.yard.tracks().iter().enumerate() {
             if is_chord(*one, self.flags[number]) {

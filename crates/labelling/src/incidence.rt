@@ -1,6 +1,5 @@
 // The open tracks of a yard by both their ends, and what their labels sum to at a point.
 ghost use Rattle.std.specs.Prelude.{◌≡◌, ◌<◌, length, Decides};
-ghost use Rattle.std.proofs.Props.{props};
 ghost use Rattle.circulation.specs.Labels.{total, leaves_from, enters_at};
 ghost use Rattle.labelling.specs.declared.ends.End.TheVariants.{First, Second};
 ghost use Rattle.yard.specs.Meaning.{yard_tracks};

@@ -1,6 +1,5 @@
 // The tracks of the forest that have no label yet, and how many of them each point has.
 ghost use Rattle.std.specs.Prelude.{◌≡◌, ℕ, ◌<◌, true, false, length, slice_set, IfSome, IfNone};
-ghost use Rattle.std.proofs.Props.{props};
 ghost use Rattle.graph.specs.Degrees.{flagged, Alone, NoneAlone};
 ghost use Rattle.graph.specs.Forests.{InForest};
 ghost use Rattle.labelling.specs.Degrees.{Degrees};
@@ -19,7 +18,7 @@ pub(crate) struct Leaves<'a> {
     degrees: [Degree; POINTS],
     ghost room: { length left ≡ 2048 },
     ghost whole: { length degrees ≡ 512 },
-    ghost forest: { (t : ℕ) → flagged left t ≡ true → InForest (yard_tracks yard.now) t } by { Prim.hlevel props },
+    ghost forest: { (t : ℕ) → flagged left t ≡ true → InForest (yard_tracks yard.now) t },
     ghost counted: { Degrees (yard_tracks yard.now) left degrees (length (yard_tracks yard.now)) },
 }
 

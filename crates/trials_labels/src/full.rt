@@ -1,5 +1,5 @@
 // Yards of 2,048 tracks on 512 points, in each kind.
-use crate::lists::{alike, check_refused, drawn, many_words};
+use crate::lists::{alike, drawn, many_words};
 use label::Label;
 use label::both::Both;
 use label::sum::Sum32;
@@ -37,7 +37,7 @@ fn check_full<K: Label>(rt: &impl Abort, heap: Global) -> Result<(), Fail> {
         &words.as_slice()[..needed - 1],
         labels.as_mut_slice(),
     );
-    check_refused(rt, fewer, 8)?;
+    assert_eq!(rt; fewer.err().map(|refusal| refusal.number()), Some(8));
     assert!(rt; alike(labels.as_slice(), before.as_slice()), "as it was");
     let enough = label_tracks(&yard, &words.as_slice()[..needed], labels.as_mut_slice());
     assert_eq!(rt; enough?, needed);

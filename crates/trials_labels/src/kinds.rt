@@ -48,15 +48,11 @@ struct Only;
 impl Label for Only {
     const LETTER: u8 = b'1';
 
+    ghost LETTER = { 49 };
+
     ghost group = { record { zero = record {}; sum = λ _ _. record {}; opposite = λ a. a; assoc = λ _ _ _. refl; comm = λ _ _. refl; unit = λ _. refl; inverse = λ _. refl } };
 
     ghost drawn = { λ _. record {} };
-
-    ghost named = { 49 };
-
-    fn own_letter() -> u8 {
-        Self::LETTER
-    }
 
     fn zero() -> Self {
         Only

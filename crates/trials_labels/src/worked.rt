@@ -1,5 +1,5 @@
 // Small yards worked out.
-use crate::lists::{alike, check_refused, drawn, yard_of};
+use crate::lists::{alike, drawn, yard_of};
 use fan::Fan;
 use label::Label;
 use label::sum::Sum32;
@@ -112,8 +112,10 @@ fn a_list_of_another_length(rt: HostRuntime) -> Result<(), Fail> {
     let lists: [&[u64]; 3] = [&[], &[4, 5], &[4, 5, 6, 7]];
     for list in lists.iter() {
         let mut labels = drawn::<Xor>(rt.alloc(), *list)?;
-        check_refused(&rt, label_tracks(&three, &[1, 2], labels.as_mut_slice()), 7)?;
-        check_refused(&rt, label_tracks(&three, &[], labels.as_mut_slice()), 7)?;
+        let enough = label_tracks(&three, &[1, 2], labels.as_mut_slice());
+        assert_eq!(rt; enough.err().map(|refusal| refusal.number()), Some(7));
+        let too_few = label_tracks(&three, &[], labels.as_mut_slice());
+        assert_eq!(rt; too_few.err().map(|refusal| refusal.number()), Some(7));
         let before = drawn::<Xor>(rt.alloc(), *list)?;
         assert!(rt; alike(labels.as_slice(), before.as_slice()));
     }
