@@ -1,10 +1,10 @@
 -- Texts put one behind another are one text, and a text at the front that fits. Assumes nothing.
-use Rattle.std.proofs.Common.{◌≡◌, ℕ, suc, ◌+◌, ◌≤◌, List, [], ◌∷◌, ◌++◌, length, drop, set, Ok, Err, Result, sym, refl, ap, ◌∙◌, subst, arith}
+use Rattle.std.proofs.Common.{◌≡◌, ℕ, suc, ◌+◌, ◌≤◌, List, [], ◌∷◌, ◌++◌, length, drop, set, sym, refl, ap, ◌∙◌, subst, arith}
 use Rattle.std.proofs.lemmas.List.{append_assoc, length-append, length_push, set_at, set_past}
 use Rattle.std.proofs.lemmas.Bool.{cond_above}
 use Rattle.written.specs.declared.page.Page.{Page}
 use Rattle.written.specs.Pages.{Puts}
-use Rattle.written.specs.Places.{over, Put, write_answer, bytes_after}
+use Rattle.written.specs.Places.{over, Put, bytes_after}
 
 over_append : (bs : List ℕ) (at : ℕ) (p q : List ℕ) → over bs at (p ++ q) ≡ over (over bs at p) (at + length p) q
 over_append bs at [] q = let same : at ≡ at + 0 = omega arith in ap (λ n. over bs n q) same
@@ -64,9 +64,10 @@ front_put {bs} {p} put h = put.held ∙ over_behind [] bs p h
 pub put_as : {bs : List ℕ} {at : ℕ} {p q after : List ℕ} {next : ℕ} → p ≡ q → Put bs at p after next → Put bs at q after next
 put_as {bs} {at} {p} {q} {after} {next} e put = subst (λ x. Put bs at x after next) e put
 
--- the answer and the bytes after, where the text fits
-pub answer_fits : {bs text after : List ℕ} {next : ℕ} → Put bs 0 text after next → length text ≤ length bs → Ok next ≡ write_answer text bs
-answer_fits {bs} {text} {after} {next} put h = let long : next ≡ length text = let e = put.behind in omega arith in cond_above {X = Result ℕ ℕ} (length bs) (length text) (Err 15) (Ok (length text)) (Ok next) h (ap Ok long)
+-- a text that was counted over no bytes, and was found no longer than these
+pub counted_fits : {text after : List ℕ} {n : ℕ} (bs : List ℕ) → Put [] 0 text after n → n ≤ length bs → length text ≤ length bs
+counted_fits bs counted short = let long = counted.behind in omega arith
 
+-- the bytes after, where the text fits
 pub after_fits : {bs text after : List ℕ} {next : ℕ} → Put bs 0 text after next → length text ≤ length bs → after ≡ bytes_after text bs
 after_fits {bs} {text} {after} put h = cond_above (length bs) (length text) bs (text ++ drop (length text) bs) after h (front_put put h)

@@ -1,20 +1,16 @@
-use Rattle.std.proofs.Common.{◌≤◌, length, refl, ap, arith}
+use Rattle.std.proofs.Common.{ap, arith}
 use Rattle.sheet.specs.Meaning.{sheet_marks}
 use Rattle.written.specs.Lines.{sheet_text}
-use Rattle.written.proofs.Putting.{put_as, answer_fits, after_fits}
+use Rattle.written.proofs.Putting.{put_as, counted_fits, after_fits}
 use Rattle.written.proofs.Read.{read_front}
 use Rattle.written.proofs.write_sheet.Goals as goal
 
-pub returns : goal.returns
-returns c =
-    let text = sheet_text c.args.tracks.now (sheet_marks c.args.sheet.now) in
+pub returns-clause-bytes : goal.returns-clause-bytes
+returns-clause-bytes c =
     let same = ap (sheet_text c.args.tracks.now) c.marks-marks.ensures in
-    let counted = (put_as same c.put_over-length.ensures.put).behind in
-    let fits : length text ≤ length c.args.bytes.now = omega arith in
-    let put = put_as same c.put_over.ensures.put in
-    record {
-      value = answer_fits put fits;
-      bytes = after_fits put fits;
-      read = read_front c.args.tracks.now (sheet_marks c.args.sheet.now) put fits;
-      enough = λ _. refl;
-    }
+    after_fits (put_as same c.put_over.ensures.put) (counted_fits _ (put_as same c.put_over-length.ensures.put) (omega arith))
+
+pub returns-clause-read : goal.returns-clause-read
+returns-clause-read c =
+    let same = ap (sheet_text c.args.tracks.now) c.marks-marks.ensures in
+    read_front c.args.tracks.now (sheet_marks c.args.sheet.now) (put_as same c.put_over.ensures.put) (counted_fits _ (put_as same c.put_over-length.ensures.put) (omega arith))
