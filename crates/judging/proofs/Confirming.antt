@@ -1,7 +1,9 @@
 -- Leads that agree with every round are right, and right leads agree with every round. Assumes nothing.
-use Rattle.std.proofs.Common.{◌≡◌, ℕ, ◌*◌, ◌<◌, ◌≤◌, Bool, List, length, Option, Some, None, Ok, Err, Decides, Result, sym, refl, ap, subst, inl, inr, ⊎_elim, arith}
+use Rattle.std.proofs.Common.{◌≡◌, ℕ, ◌*◌, ◌<◌, ◌≤◌, Bool, List, length, Option, Some, None, Ok, Err, Decides, Result, IsOk, sym, refl, ap, subst, inl, inr, ⊎_elim, arith}
 use Rattle.std.proofs.lemmas.Bool.{cases_eq}
 use Rattle.std.proofs.lemmas.Bool.Decides.{Decides-like}
+use Rattle.network.specs.Refusals.{numbered}
+use Rattle.network.specs.declared.track.Refusal.{Refusal}
 use Rattle.network.specs.declared.track.Track.{Track}
 use Rattle.graph.specs.Forests.{WordsNeeded}
 use Rattle.graph.specs.Yards.{track}
@@ -50,7 +52,8 @@ module _ (y : List Track) (leads : List (Option ℕ)) (r n : ℕ) (ks : List Xor
       Decides-like b (λ a vs v. subst (λ (l : List Xor). Agrees y leads l (length y)) (labelling_unique xors y (units r) ks vs own v) a) (λ all. all ks own) d
 
 -- a labelling of as many labels as tracks and as many words as needed is not refused
-pub not_refused : (y : List Track) (n : ℕ) (before after : List Xor) (drawn : ℕ → Xor) (answer : Result ℕ ℕ) → length before ≡ length y → WordsNeeded y n → LabelAnswer xors y drawn n before after answer → TheLabelling xors y drawn n after
-not_refused y n before after drawn (Ok m) long needed (e, w, le, is) = subst (λ (k : ℕ). TheLabelling xors y drawn k after) (count_same w needed) is
-not_refused y n before after drawn (Err number) long needed (inl (ne, e), same) = absurd (ne long)
-not_refused y n before after drawn (Err number) long needed (inr (e, (m, w, less), k), same) = absurd (let h = count_same w needed in omega arith)
+module _ (y : List Track) (n : ℕ) (before after : List Xor) (drawn : ℕ → Xor) (long : length before ≡ length y) (needed : WordsNeeded y n) where
+  pub not_refused : (answer : Result ℕ Refusal) → LabelAnswer xors y drawn n before after (numbered answer) → IsOk answer × TheLabelling xors y drawn n after
+  not_refused (Ok m) (e, w, le, is) = (refl, subst (λ (k : ℕ). TheLabelling xors y drawn k after) (count_same w needed) is)
+  not_refused (Err refusal) (inl (ne, e), same) = absurd (ne long)
+  not_refused (Err refusal) (inr (e, (m, w, less), k), same) = absurd (let h = count_same w needed in omega arith)

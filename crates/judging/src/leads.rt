@@ -14,7 +14,7 @@ pub(crate) struct Leads {
     ghost low: { Low leads },
 }
 
-// The lead of a track, or none where it is absent.
+// The lead of a track; none where it carries zero or is absent.
 fn lead_of<K: Label>(labels: &[K], number: usize) -> Option<u16>
     requires { length labels.now ≤ 2048 }
     ensures { LeadOf K.group labels.now number result }

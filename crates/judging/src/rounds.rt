@@ -65,7 +65,7 @@ impl Leads {
         requires labels { length labels.old ≡ length (yard_tracks yard.now) }
         ensures { Decides result (RoundAgrees (yard_tracks yard.now) self.now.leads round) }
     {
-        let _ = label_tracks(yard, words, labels);
+        label_tracks(yard, words, labels).unwrap();
         self.agrees(yard.tracks(), labels)
     }
 
