@@ -1,5 +1,5 @@
 -- Counting the representatives of marked points, and marking the points that open tracks touch. Assumes nothing.
-use Rattle.std.proofs.Common.{◌≡◌, ℕ, ◌+◌, ◌<◌, Bool, true, false, not, ◌&&◌, ◌≢◌, ◌⊎◌, List, length, get_or, set, Decides, sym, ap, ◌∙◌, subst, inl, inr, ⊎_elim, arith}
+use Rattle.std.proofs.Common.{◌≡◌, ℕ, ◌+◌, ◌<◌, ◌≤◌, Bool, true, false, not, ◌&&◌, ◌≢◌, ◌⊎◌, List, length, get_or, set, Decides, sym, ap, ◌∙◌, subst, inl, inr, ⊎_elim, arith}
 use Rattle.std.proofs.lemmas.List.{get_or-set_same, get_or-set_other, length-set}
 use Rattle.std.proofs.lemmas.Bool.{true≢false, cases_Bool, cases_eq, and_parts}
 use Rattle.std.proofs.lemmas.Bool.Decides.{nat_tests, Decides-at, Decides-like}
@@ -8,7 +8,7 @@ use Rattle.graph.specs.Counts.{Count}
 use Rattle.graph.specs.Groups.{Touched, LeadsGroup}
 use Rattle.graph.specs.Representing.{Represents}
 use Rattle.graph.specs.Yards.{Open, track}
-use Rattle.graph.proofs.Counting.{count_like}
+use Rattle.graph.proofs.Counting.{count_like, one_more, none_more}
 use Rattle.yard.specs.Partitions.{FirstOf}
 
 module _ (reps : List ℕ) (marked : List Bool) where
@@ -60,6 +60,23 @@ module _ (reps : List ℕ) (marked : List Bool) where
       where
         here : get_or marked k false ≡ true → get_or seen (get_or reps k 0) false ≡ true
         here m = grind (arith, nat_tests)
+
+  -- what is kept from point to point: those below k are seen, and the first among them counted
+  abbrev pub Counted : List Bool → ℕ → ℕ → Type 0
+  Counted seen n k = (n ≤ k) × (length seen ≡ 512) × Seen seen k × Count (FirstOf reps marked) k n
+
+  module _ (seen : List Bool) (n k rep : ℕ) (is_marked : Bool) (low : get_or reps k 0 < 512) (at : rep ≡ get_or reps k 0) (told : is_marked ≡ get_or marked k false) (held : Counted seen n k) where
+    pub counted_first : true ≡ (is_marked && not (get_or seen rep false)) → Counted (set seen rep true) (n + 1) (k + 1)
+    counted_first e =
+        let less = held.0 in
+        let first : test seen k low held.2 ≡ true = rw (sym at, sym told) (sym e) in
+        rw at (omega arith, length-set seen (get_or reps k 0) true ∙ held.1, seen_first seen k low held.2 held.1 first, one_more (FirstOf reps marked) k n held.3 (first_here seen k low held.2 first))
+
+    pub counted_other : false ≡ (is_marked && not (get_or seen rep false)) → Counted seen n (k + 1)
+    counted_other e =
+        let less = held.0 in
+        let other : test seen k low held.2 ≡ false = rw (sym at, sym told) (sym e) in
+        (omega arith, held.1, seen_other seen k low held.2 other, none_more (FirstOf reps marked) k n held.3 (not_first seen k low held.2 other))
 
 -- the first points of the representatives are the lowest points of the groups
 pub group_count : (y : List Track) (reps : List ℕ) (marked : List Bool) (n : ℕ) → Represents reps y → ((p : ℕ) → p < 512 → Decides (get_or marked p false) (Touched y p)) → Count (FirstOf reps marked) 512 n → Count (LeadsGroup y) 512 n

@@ -80,9 +80,9 @@ impl Partition {
     {
         let mut seen = [false; POINTS];
         let mut count = 0;
-        for (point, rep) in self.reps.iter().enumerate() {
+        for (rep, is_marked) in self.reps.iter().zip(marked) {
             let rep = *rep as usize;
-            if is_first(marked[point], seen[rep]) {
+            if is_first(*is_marked, seen[rep]) {
                 seen[rep] = true;
                 count += 1;
             }
