@@ -11,11 +11,6 @@ use std::process::Abort;
 use std::test::Fail;
 use yard::Yard;
 
-// The labels that these words draw, one for each.
-pub(crate) fn drawn<K: Label>(heap: Global, words: &[u64]) -> Result<Vec<K>, AllocError> {
-    words.iter().map(|word| K::draw(*word)).collect(heap)
-}
-
 // The labelling that the words draw on a yard, judged: the number of the refusal, if it is refused.
 pub(crate) fn judged<K: Label>(
     heap: Global,
@@ -25,7 +20,8 @@ pub(crate) fn judged<K: Label>(
 ) -> Result<Option<u8>, Fail> {
     let mut labels: Vec<K> = yard.tracks().iter().map(|_| K::zero()).collect(heap)?;
     let _ = label_tracks(yard, words, labels.as_mut_slice())?;
-    Ok(number_of(judge(yard, labels.as_slice(), sheet)))
+    let answer = judge(yard, labels.as_slice(), sheet);
+    Ok(answer.err().map(Refusal::number))
 }
 
 // Labels that were not drawn on the yard, judged.
@@ -35,13 +31,9 @@ pub(crate) fn judged_labels<K: Label>(
     words: &[u64],
     sheet: &mut Sheet,
 ) -> Result<Option<u8>, Fail> {
-    let labels = drawn::<K>(heap, words)?;
-    Ok(number_of(judge(yard, labels.as_slice(), sheet)))
-}
-
-// The number of the refusal, if the call is refused.
-pub(crate) fn number_of<T: Drop>(answer: Result<T, Refusal>) -> Option<u8> {
-    answer.err().map(|refusal| refusal.number())
+    let labels: Vec<K> = words.iter().map(|word| K::draw(*word)).collect(heap)?;
+    let answer = judge(yard, labels.as_slice(), sheet);
+    Ok(answer.err().map(Refusal::number))
 }
 
 // The sheet has these marks.

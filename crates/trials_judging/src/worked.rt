@@ -1,11 +1,11 @@
 // Ten small yards.
-use crate::hands::{check_marks, check_totals, judged, judged_labels, number_of};
+use crate::hands::{check_marks, check_totals, judged, judged_labels};
 use boundary::yard_of;
 use fan::Fan;
 use label::sum::Sum32;
 use label::xor::Xor;
 use network::Network;
-use network::track::Track;
+use network::track::{Refusal, Track};
 use sheet::mark::Mark;
 use sheet::record::Sheet;
 use std::test::Fail;
@@ -118,6 +118,6 @@ fn labels_from_any_hand(rt: HostRuntime) -> Result<(), Fail> {
     );
     assert!(rt; sheet.are_parting(1, 0)?);
     assert!(rt; !sheet.are_parting(1, 1)?);
-    assert_eq!(rt; number_of(sheet.are_parting(0, 2)), Some(1));
+    assert_eq!(rt; sheet.are_parting(0, 2).err().map(Refusal::number), Some(1));
     Ok(())
 }

@@ -1,12 +1,14 @@
 // Kinds made of kinds, and a kind with a single label.
 ghost use Rattle.std.specs.Prelude.{refl};
 
-use crate::lists::{drawn, yard_of};
+use crate::lists::drawn;
+use boundary::yard_of;
 use label::Label;
 use label::both::Both;
 use label::sum::Sum32;
 use label::xor::Xor;
 use labelling::{balances, label_tracks};
+use network::track::Track;
 use std::test::Fail;
 
 const WORD: u64 = 0x1111_2222_3333_4444;
@@ -14,7 +16,7 @@ const WORD: u64 = 0x1111_2222_3333_4444;
 // The first part comes from the word, the second from the word rotated by 32 bits.
 #[test]
 fn both_draws_the_rotated_word(rt: HostRuntime) -> Result<(), Fail> {
-    let two = yard_of(rt.alloc(), &[(0, 1), (0, 1)])?;
+    let two = yard_of(rt.alloc(), &[Track::open(0, 1), Track::open(0, 1)])?;
     let mut labels = drawn::<Both<Xor, Sum32>>(rt.alloc(), &[0, 0])?;
     assert_eq!(rt; label_tracks(&two, &[WORD], labels.as_mut_slice())?, 1);
     assert!(rt; labels.len() == 2);
@@ -29,7 +31,7 @@ fn both_draws_the_rotated_word(rt: HostRuntime) -> Result<(), Fail> {
 // A label of kind B may be a part of one: the word goes on to its parts, rotated for each second one.
 #[test]
 fn both_nests(rt: HostRuntime) -> Result<(), Fail> {
-    let two = yard_of(rt.alloc(), &[(0, 1), (0, 1)])?;
+    let two = yard_of(rt.alloc(), &[Track::open(0, 1), Track::open(0, 1)])?;
     let mut labels = drawn::<Both<Both<Sum32, Xor>, Sum32>>(rt.alloc(), &[0, 0])?;
     assert_eq!(rt; label_tracks(&two, &[WORD], labels.as_mut_slice())?, 1);
     assert!(rt; labels.len() == 2);
@@ -78,7 +80,10 @@ impl Label for Only {
 // In a kind with a single label every list that is long enough balances.
 #[test]
 fn a_single_label(rt: HostRuntime) -> Result<(), Fail> {
-    let yard = yard_of(rt.alloc(), &[(0, 1), (1, 2), (2, 2)])?;
+    let yard = yard_of(
+        rt.alloc(),
+        &[Track::open(0, 1), Track::open(1, 2), Track::open(2, 2)],
+    )?;
     let mut labels = drawn::<Only>(rt.alloc(), &[1, 2, 3])?;
     assert!(rt; balances(&yard, labels.as_slice()));
     assert_eq!(rt; label_tracks(&yard, &[5], labels.as_mut_slice())?, 1);

@@ -1,18 +1,6 @@
-// Yards and lists of labels for the tests.
+// Lists of labels and words for the tests.
 use label::Label;
 use std::alloc::{AllocError, Global};
-use std::test::Fail;
-use table::Table;
-use yard::Yard;
-
-// The yard of these tracks, all open.
-pub(crate) fn yard_of(heap: Global, ends: &[(u16, u16)]) -> Result<Yard, Fail> {
-    let mut table = Table::new(heap)?;
-    for (first, second) in ends {
-        table.lay(*first, *second)?;
-    }
-    Ok(Yard::of(heap, &table)?)
-}
 
 // The labels that these words draw, one for each.
 pub(crate) fn drawn<K: Label>(heap: Global, words: &[u64]) -> Result<Vec<K>, AllocError> {

@@ -1,11 +1,13 @@
 // Small yards worked out.
-use crate::lists::{alike, drawn, yard_of};
+use crate::lists::{alike, drawn};
+use boundary::yard_of;
 use fan::Fan;
 use label::Label;
 use label::sum::Sum32;
 use label::xor::Xor;
 use labelling::{balances, label_tracks};
 use network::Network;
+use network::track::Track;
 use std::alloc::Global;
 use std::process::Abort;
 use std::test::Fail;
@@ -34,18 +36,21 @@ fn check_draws<K: Label>(
 
 #[test]
 fn parallel_tracks(rt: HostRuntime) -> Result<(), Fail> {
-    let two = yard_of(rt.alloc(), &[(0, 1), (0, 1)])?;
+    let two = yard_of(rt.alloc(), &[Track::open(0, 1), Track::open(0, 1)])?;
     check_draws::<Sum32>(&rt, rt.alloc(), &two, &[6], &[4_294_967_290, 6])?;
-    let three = yard_of(rt.alloc(), &[(0, 1), (0, 1), (0, 1)])?;
+    let three = yard_of(
+        rt.alloc(),
+        &[Track::open(0, 1), Track::open(0, 1), Track::open(0, 1)],
+    )?;
     check_draws::<Xor>(&rt, rt.alloc(), &three, &[3, 3], &[0, 3, 3])?;
     check_draws::<Xor>(&rt, rt.alloc(), &three, &[3, 5], &[6, 3, 5])
 }
 
 #[test]
 fn loops_and_bridges(rt: HostRuntime) -> Result<(), Fail> {
-    let ring = yard_of(rt.alloc(), &[(0, 0)])?;
+    let ring = yard_of(rt.alloc(), &[Track::open(0, 0)])?;
     check_draws::<Xor>(&rt, rt.alloc(), &ring, &[1], &[1])?;
-    let bridge = yard_of(rt.alloc(), &[(0, 1)])?;
+    let bridge = yard_of(rt.alloc(), &[Track::open(0, 1)])?;
     check_draws::<Xor>(&rt, rt.alloc(), &bridge, &[], &[0])?;
     let none = yard_of(rt.alloc(), &[])?;
     check_draws::<Xor>(&rt, rt.alloc(), &none, &[], &[])
@@ -75,7 +80,7 @@ fn do_balance<K: Label>(heap: Global, yard: &Yard, words: &[u64]) -> Result<bool
 
 #[test]
 fn what_does_not_balance(rt: HostRuntime) -> Result<(), Fail> {
-    let two = yard_of(rt.alloc(), &[(0, 1), (1, 0)])?;
+    let two = yard_of(rt.alloc(), &[Track::open(0, 1), Track::open(1, 0)])?;
     assert!(rt; do_balance::<Sum32>(rt.alloc(), &two, &[6, 6])?);
     assert!(rt;
         !do_balance::<Sum32>(rt.alloc(), &two, &[6, 7])?,
@@ -108,7 +113,10 @@ fn what_does_not_balance(rt: HostRuntime) -> Result<(), Fail> {
 // A list of another length is refused with 7, even with too few words, and stays as it was.
 #[test]
 fn a_list_of_another_length(rt: HostRuntime) -> Result<(), Fail> {
-    let three = yard_of(rt.alloc(), &[(0, 1), (0, 1), (0, 1)])?;
+    let three = yard_of(
+        rt.alloc(),
+        &[Track::open(0, 1), Track::open(0, 1), Track::open(0, 1)],
+    )?;
     let lists: [&[u64]; 3] = [&[], &[4, 5], &[4, 5, 6, 7]];
     for list in lists.iter() {
         let mut labels = drawn::<Xor>(rt.alloc(), *list)?;

@@ -9,11 +9,6 @@ use std::test::Fail;
 use table::Table;
 use yard::{Class, Yard};
 
-// The number of a refusal, or none for an answer.
-fn number(answer: Result<bool, Refusal>) -> Option<u8> {
-    answer.err().map(|refusal| refusal.number())
-}
-
 // These tracks are in a class with this lead and size, and none is a bridge.
 fn check_class(
     rt: &impl Abort,
@@ -59,9 +54,15 @@ fn check_joined(rt: &impl Abort, yard: &Yard, answers: &[(u16, u16, bool)]) {
 
 // There is no track with this number.
 fn check_absent(rt: &impl Abort, yard: &Yard, track: usize) {
-    assert_eq!(rt; number(yard.is_bridge(track)), Some(1));
-    assert_eq!(rt; number(yard.are_parting(0, track)), Some(1));
-    assert_eq!(rt; number(yard.are_parting(track, 0)), Some(1));
+    assert_eq!(rt; yard.is_bridge(track).err().map(Refusal::number), Some(1));
+    assert_eq!(rt;
+        yard.are_parting(0, track).err().map(Refusal::number),
+        Some(1)
+    );
+    assert_eq!(rt;
+        yard.are_parting(track, 0).err().map(Refusal::number),
+        Some(1)
+    );
     assert!(rt; yard.class_of(track).is_err());
 }
 
