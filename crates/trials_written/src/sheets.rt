@@ -22,16 +22,16 @@ fn triangle() -> [Track; 5] {
 }
 
 // A sheet with these marks.
-fn sheet_of(rt: &impl Abort, heap: Global, marks: &[Mark]) -> Result<Sheet, Fail> {
+fn sheet_of(heap: Global, marks: &[Mark]) -> Result<Sheet, Fail> {
     let mut sheet = Sheet::blank(heap)?;
-    assert!(rt; sheet.rewrite(b'X', marks));
+    sheet.rewrite(b'X', marks)?;
     Ok(sheet)
 }
 
 // The sheet of the triangle.
-fn triangle_sheet(rt: &impl Abort, heap: Global) -> Result<Sheet, Fail> {
+fn triangle_sheet(heap: Global) -> Result<Sheet, Fail> {
     let mates = Mark::Mates { lead: 0, size: 3 };
-    sheet_of(rt, heap, &[mates, mates, mates, Mark::Single, Mark::Alone])
+    sheet_of(heap, &[mates, mates, mates, Mark::Single, Mark::Alone])
 }
 
 // The text is written to the front of the bytes, and the bytes beyond it stay.
@@ -76,7 +76,7 @@ fn check_triangle(rt: &impl Abort, sheet: &Sheet) -> Result<(), Fail> {
 
 #[test]
 fn triangle_with_tail_and_loop(rt: HostRuntime) -> Result<(), Fail> {
-    let sheet = triangle_sheet(&rt, rt.alloc())?;
+    let sheet = triangle_sheet(rt.alloc())?;
     check_triangle(&rt, &sheet)
 }
 
@@ -96,7 +96,7 @@ fn check_one_line(rt: &impl Abort, sheet: &Sheet) -> Result<(), Fail> {
 
 #[test]
 fn as_many_lines_as_the_shorter_list(rt: HostRuntime) -> Result<(), Fail> {
-    let sheet = sheet_of(&rt, rt.alloc(), &[Mark::Shut])?;
+    let sheet = sheet_of(rt.alloc(), &[Mark::Shut])?;
     check_one_line(&rt, &sheet)
 }
 
@@ -116,6 +116,6 @@ fn many_tracks(rt: HostRuntime) -> Result<(), Fail> {
         lead: 2047,
         size: 1,
     };
-    let sheet = sheet_of(&rt, rt.alloc(), &marks)?;
+    let sheet = sheet_of(rt.alloc(), &marks)?;
     check_many(&rt, &sheet)
 }
