@@ -3,6 +3,7 @@ ghost use Rattle.std.specs.Prelude.{◌≡◌, ◌+◌, ◌<◌, ◌≤◌, [], 
 ghost use Rattle.written.specs.Lines.{decimal, mark_word, lead_field, line, sheet_text};
 ghost use Rattle.written.specs.Pages.{Puts};
 
+use itoa::Buffer;
 use network::track::Track;
 use sheet::mark::Mark;
 
@@ -40,16 +41,13 @@ impl Page<'_> {
         }
     }
 
-    // Puts the digits of a number above 0, and nothing for 0. Std's `write!` of a number could fail by its contract.
+    // Puts the digits of a number.
     fn put_number(&mut self, number: usize)
-        requires { (self.old.at + 5 ≤ 65536) × (number < 100000) }
+        requires { (self.old.at + 5 ≤ 65536) × (0 < number) × (number < 100000) }
         ensures put { Puts self.old (decimal number) self.new }
         ensures short { self.new.at ≤ self.old.at + 5 }
     {
-        if number > 0 {
-            self.put_number(number / 10);
-            self.put(&[b'0' + (number % 10) as u8]);
-        }
+        self.put(Buffer::new().format(number).as_bytes());
     }
 
     // Puts a number one higher than it is inside, and a comma.
