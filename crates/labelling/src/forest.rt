@@ -48,7 +48,7 @@ impl<'a> Forest<'a> {
         Forest { yard, flags }
     }
 
-    // How many chords there are.
+    // How many chords there are, by the flags: `Yard::words_needed` would join all points once more.
     pub(crate) fn chord_count(&self) -> usize
         ensures { WordsNeeded (yard_tracks self.now.yard.now) result }
     {

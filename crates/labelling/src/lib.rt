@@ -1,4 +1,6 @@
 // Labels on the tracks of a yard: whether they balance, and the one labelling that words draw.
+//
+// What a yard keeps stands in the types that hold it. That there is a label for each track stays in contracts: the list is the caller's.
 #![tactic(auto)]
 
 mod balance;

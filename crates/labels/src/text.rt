@@ -1,4 +1,6 @@
 // What is printed: a line for each track with its labels, or why there are none.
+//
+// A yard and words go on by themselves: each is used by one call, and a struct of two references would say no more.
 ghost use Rattle.std.specs.Prelude.{◌≡◌, ◌<◌, ◌≤◌, ◌++◌, length, IfOk, OnOk, string_bytes};
 ghost use Rattle.network.specs.Refusals.{refusal_number};
 ghost use Rattle.yard.specs.Meaning.{yard_tracks};
@@ -39,7 +41,7 @@ fn push_row(
     write!(text, "{fields},{bits},{value},{left},{right}\r\n")
 }
 
-// The words for whether labels balance.
+// The words for whether labels balance: a `bool` prints other words.
 fn balance_words(balanced: bool) -> &'static str
     ensures { result.now ≡ balance_words balanced }
 {

@@ -49,7 +49,7 @@ pub fn read_file(input: &[u8], table: &mut Table) -> Result<u16, FileFault>
     read_plan(input, table)
 }
 
-// The word for the state of a track.
+// The word for the state of a track: a `bool` prints other words.
 pub fn state_word(shut: bool) -> &'static str
     ensures { result.now ≡ state_word shut }
 {
