@@ -111,15 +111,14 @@ impl<N: Network> Network for Annex<N> {
         if track < self.below.count() {
             return self.below.ends(track);
         }
-        let own = self.own_at(track)?;
-        Some((own.first, own.second))
+        self.own_at(track).map(|own| own.ends())
     }
 
     fn is_open(&self, track: usize) -> bool {
         if track < self.below.count() {
             return self.below.is_open(track);
         }
-        self.own_at(track).is_some_and(|own| !own.shut)
+        self.own_at(track).is_some_and(|own| own.is_open())
     }
 
     fn set_state(&mut self, track: usize, shut: bool) -> Result<(), Refusal> {

@@ -114,12 +114,11 @@ impl Network for Fan {
     }
 
     fn ends(&self, track: usize) -> Option<(u16, u16)> {
-        let record = self.record(track)?;
-        Some((record.first, record.second))
+        self.record(track).map(|record| record.ends())
     }
 
     fn is_open(&self, track: usize) -> bool {
-        self.record(track).is_some_and(|record| !record.shut)
+        self.record(track).is_some_and(|record| record.is_open())
     }
 
     fn set_state(&mut self, track: usize, shut: bool) -> Result<(), Refusal> {

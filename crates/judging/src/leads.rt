@@ -6,7 +6,7 @@ use label::Label;
 use network::TRACKS;
 use std::array;
 
-// For each track its lead, the lowest track with an equal or opposite label; none where it carries zero.
+// In an array, since judging takes no memory: for each track its lead, the lowest track with an equal or opposite label; none where it carries zero.
 #[derive(Drop)]
 pub(crate) struct Leads {
     pub(crate) leads: [Option<u16>; TRACKS],

@@ -47,6 +47,7 @@ impl Leads {
     {
         let sizes = self.sizes(tracks.len());
         let mut marks = [Mark::Shut; TRACKS];
+        // over the tracks alone: of what goes through `iter_mut().zip(..)` a proof knows nothing
         for (number, track) in tracks.iter().enumerate() {
             marks[number] = mark_of(track.shut, self.leads[number], &sizes);
         }

@@ -77,6 +77,7 @@ impl Leads {
         let needed = yard.words_needed();
         let count = yard.tracks().len();
         let mut labels = [Xor { bits: 0 }; TRACKS];
+        // a loop, since the labels are written anew in each round, and of what a closure changes a proof knows nothing
         for round in 0..needed / 64 + 1 {
             let words = unit_words(round);
             if !self.round_agrees(yard, round, &words[..needed], &mut labels[..count]) {

@@ -3,7 +3,7 @@
 // Each function makes a yard of the tracks, once, and answers 0, or why it could not: 4 for a point above 511, 5 for more than 2,048
 // tracks, 255 for want of memory, 7 for a list of labels that is not as long as the tracks, 8 for too few words. One that does not
 // answer 0 writes nothing. C has no type parameters, so each kind has calls of its own.
-// What a caller passes goes on as it comes.
+// The C interface passes heap, tracks and the rest one by one, and so they go on.
 #![tactic(auto)]
 
 ghost use Rattle.std.specs.Prelude.{◌≡◌, length, slice_index};

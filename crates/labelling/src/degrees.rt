@@ -1,7 +1,7 @@
 // The tracks that are left at a point.
 ghost use Rattle.std.specs.Prelude.{◌≡◌, ◌+◌, ◌-◌, ◌<◌, ◌≤◌, bit_xor};
 
-// How many they are, and the exclusive or of their numbers: where one is left, that is its number.
+// How many they are, and the exclusive or of their numbers as one number: where one is left, that is its own.
 #[derive(Clone, Copy)]
 pub(crate) struct Degree {
     pub(crate) count: u16,

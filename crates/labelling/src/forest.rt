@@ -61,7 +61,8 @@ impl<'a> Forest<'a> {
         requires enough { (m : ℕ) → WordsNeeded (yard_tracks self.now.yard.now) m → m ≤ length words.now }
         ensures { ChordsDrawn K.group (yard_tracks self.now.yard.now) (λ i. K.drawn (slice_index words.now i)) labels.new (length (yard_tracks self.now.yard.now)) }
     {
-        // As a count of the words used: an iterator over the words would need an arm for where they run out.
+        // As a count of the words used: an iterator over the words would need an arm for where they run out. Over the tracks alone: of what goes
+        // through `iter_mut().zip(..)` a proof knows nothing.
         let mut used = 0;
         for (number, one) in self.yard.tracks().iter().enumerate() {
             if is_chord(*one, self.flags[number]) {

@@ -34,6 +34,7 @@ impl<'a> Leaves<'a> {
             count: 0,
             numbers: 0,
         }; POINTS];
+        // the flag by its number: a third pattern in the head of the loop is no plainer
         for (number, one) in yard.tracks().iter().enumerate() {
             if left[number] {
                 degrees[one.first as usize].add(number as u16);

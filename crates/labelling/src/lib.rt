@@ -1,6 +1,8 @@
 // Labels on the tracks of a yard: whether they balance, and the one labelling that words draw.
 //
-// What a yard keeps stands in the types that hold it. That there is a label for each track stays in contracts: the list is the caller's.
+// What a yard keeps stands in the types that hold it. What is asked of a list of labels and of a point stays in contracts: a struct of the yard and
+// a `&mut` to the labels would put the list before and after behind a loan in each of them, and points are the numbers that a track has. Lists of
+// flags, numbers and links are arrays, since nothing here takes memory.
 #![tactic(auto)]
 
 mod balance;

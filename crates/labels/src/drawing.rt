@@ -16,10 +16,10 @@ use yard::Yard;
 
 // One label for each track, in the kinds X, S and B of X beside S: a list for each kind, since labelling writes one kind at a time.
 #[derive(Drop)]
-pub struct Drawn {
-    pub xors: Vec<Xor>,
-    pub sums: Vec<Sum32>,
-    pub pairs: Vec<Both<Xor, Sum32>>,
+pub(crate) struct Drawn {
+    pub(crate) xors: Vec<Xor>,
+    pub(crate) sums: Vec<Sum32>,
+    pub(crate) pairs: Vec<Both<Xor, Sum32>>,
 }
 
 // A label for each track of a yard, all zero.
@@ -40,7 +40,7 @@ fn draw<K: Label>(yard: &Yard, words: &[u64], labels: &mut Vec<K>) -> Result<(),
 
 impl Drawn {
     // Labels of each kind that are all zero.
-    pub fn zero(heap: Global, yard: &Yard) -> Result<Drawn, AllocError>
+    pub(crate) fn zero(heap: Global, yard: &Yard) -> Result<Drawn, AllocError>
         ensures { IfOk result (λ d. OneEach (yard_tracks yard.now) d.xors.items d.sums.items d.pairs.items) }
     {
         let xors = zeros(heap, yard)?;
@@ -50,7 +50,7 @@ impl Drawn {
     }
 
     // Draws the labels of each kind from words, or refuses with 8 where there are too few.
-    pub fn draw(&mut self, yard: &Yard, words: &[u64]) -> Result<(), Refusal>
+    pub(crate) fn draw(&mut self, yard: &Yard, words: &[u64]) -> Result<(), Refusal>
         requires { OneEach (yard_tracks yard.now) self.old.xors.items self.old.sums.items self.old.pairs.items }
         ensures { MatchResult result (λ _. Labels words.now (yard_tracks yard.now) self.new.xors.items self.new.sums.items self.new.pairs.items) (λ r. TooFew (yard_tracks yard.now) (length words.now) r) }
     {
@@ -61,7 +61,7 @@ impl Drawn {
     }
 
     // Whether the labels of each kind balance.
-    pub fn balance(&self, yard: &Yard) -> bool
+    pub(crate) fn balance(&self, yard: &Yard) -> bool
         ensures { Decides result (Balanced xors (yard_tracks yard.now) self.now.xors.items × Balanced sums (yard_tracks yard.now) self.now.sums.items × Balanced (pairs xors sums) (yard_tracks yard.now) self.now.pairs.items) }
     {
         balances(yard, self.xors.as_slice())

@@ -11,7 +11,7 @@ mod text;
 
 use text::printed_text;
 
-// The words, decimal numbers of 64 bits, one to an argument.
+// The words, decimal numbers of 64 bits, one to an argument. The program `judged` reads its labels likewise, and says why it does so for itself.
 fn words_given(rt: &(impl Env + AllocGlobal)) -> anyhow::Result<Vec<u64>> {
     env::args(rt)?
         .skip(1)

@@ -22,6 +22,7 @@ use tied::Tied;
 fn open_count<N: Network>(network: &N) -> usize
     ensures { result ≡ open_count (N.tracks network.now) }
 {
+    // a loop: tried as a chain over the numbers, which the proof does not tie to the list of tracks
     let mut open = 0;
     for track in 0..network.count() {
         if network.is_open(track) {

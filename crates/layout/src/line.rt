@@ -10,7 +10,7 @@ pub enum Line<'a> {
     Edge { first: u16, second: u16 },
 }
 
-// Before the problem line, or after it: then how many points and edges it says, and how many edges came.
+// In words of its own, where an Option would say nothing of lines. Before the problem line, or after it: then how many points and edges it says, and how many edges came.
 #[derive(Clone, Copy, PartialEq, Eq, Debug)]
 pub enum Place {
     Start,

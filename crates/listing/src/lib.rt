@@ -1,4 +1,4 @@
-// Track tables as text: what the program `tracktable` prints for the bytes of a plan file.
+// Track tables as text: what the program `tracktable` prints for the bytes of a plan file; and how all programs read such a file.
 #![tactic(auto)]
 
 ghost use Rattle.std.specs.Prelude.{◌≡◌, ◌+◌, ◌++◌, Some, IfOk, IfSome, string_bytes, take};
@@ -22,7 +22,7 @@ use yard::Yard;
 // A longer file is refused unread.
 pub const MOST_BYTES: usize = 65536;
 
-// The fault of a longer file.
+// The fault of a longer file, which is read as no line: the format gives it the line 0.
 pub const TOO_LONG: FileFault = FileFault {
     refusal: Refusal::OutOfPlace,
     line: 0,
@@ -56,7 +56,8 @@ pub fn state_word(shut: bool) -> &'static str
     if shut { "shut" } else { "open" }
 }
 
-// The fields of a track at the front of its line, parted by commas: its number, as it is printed, its points and its state.
+// The fields of a track at the front of its line, parted by commas: its number, its points and its state. The number is the one that is printed, one
+// higher than inside, since one higher than any `usize` may be none.
 #[derive(Clone, Copy)]
 pub struct TrackFields {
     pub number: usize,

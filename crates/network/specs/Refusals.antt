@@ -1,5 +1,5 @@
 -- The refusals and their numbers. Assumes nothing.
-use Rattle.std.specs.Prelude.{ℕ, Ok, Err, Result}
+use Rattle.std.specs.Prelude.{ℕ, List, ◌++◌, codes, decimal, Ok, Err, Result}
 use Rattle.network.specs.declared.track.Refusal.{Refusal}
 use Rattle.network.specs.declared.track.Refusal.TheVariants.{NoSuchTrack, AlreadyShut, AlreadyOpen, NoSuchPoint, Full, NoSuchSize, WrongLength, TooFewWords, Unbalanced, DrawAgain, UnknownLine, OutOfPlace, WrongNumber, TooFewBytes}
 
@@ -24,3 +24,7 @@ refusal_number TooFewBytes = 15
 abbrev pub numbered : {T : Type 0} → Result T Refusal → Result T ℕ
 numbered (Ok x) = Ok x
 numbered (Err refusal) = Err (refusal_number refusal)
+
+-- how a refusal is printed
+abbrev pub refusal_text : Refusal → List ℕ
+refusal_text refusal = codes "refused with " ++ decimal (refusal_number refusal)

@@ -63,7 +63,7 @@ pub trait Network {
 }
 
 impl Refusal {
-    // The number that the refusal is known by. No two refusals share one, which a `From` could not say.
+    // The number that the refusal is known by. No two refusals share one. `u8::from(refusal)` would not say which number it is.
     pub fn number(self) -> u8
         ensures value { result ≡ refusal_number self }
         ensures own { (other : Refusal) → result ≡ refusal_number other → other ≡ self }
@@ -86,7 +86,7 @@ pub fn each_point() -> [u16; POINTS]
     array::from_fn(|point| point as u16)
 }
 
-// The answer to a call that is to shut, or else to reopen, a track that is there and is shut or open.
+// The answer to a call that is to shut, or else to reopen, a track that is there and is shut or open. Both flags are states of a track.
 pub fn change(wanted: bool, shut: bool) -> Result<(), Refusal>
     ensures { numbered result ≡ change_answer wanted shut }
 {

@@ -1,5 +1,5 @@
 // One track of a network, and what is refused.
-ghost use Rattle.std.specs.Prelude.{◌≡◌};
+ghost use Rattle.std.specs.Prelude.{◌≡◌, not, Some};
 
 use std::error::Error;
 use std::fmt;
@@ -26,6 +26,19 @@ impl Track {
             shut: false,
         }
     }
+
+    // Its first and its second point.
+    pub fn ends(self) -> (u16, u16)
+        ensures { result ≡ (self.first, self.second) }
+    {
+        (self.first, self.second)
+    }
+
+    pub fn is_open(self) -> bool
+        ensures { result ≡ not self.shut }
+    {
+        !self.shut
+    }
 }
 
 // Why a call is refused. Each refusal is known by its number.
@@ -48,8 +61,13 @@ pub enum Refusal {
 }
 
 impl fmt::Display for Refusal {
+    ghost use Rattle.network.specs.Refusals.{refusal_text};
+
+    ghost output = { λ refusal. Some (refusal_text refusal) };
+
     fn fmt<W: fmt::Write>(&self, f: &mut fmt::Formatter<W>) -> fmt::Result {
-        write!(f, "refused with {}", *self as u8)
+        let number = *self as u8;
+        write!(f, "refused with {number}")
     }
 }
 

@@ -14,7 +14,7 @@ pub(crate) fn until(bytes: &[u8], stop: u8) -> usize
     bytes.iter().take_while(|b| **b != stop).count()
 }
 
-// How many spaces stand at the front.
+// How many spaces stand at the front. One function with `until`, over a closure, would say in its contract that the closure may be called.
 fn spaces(bytes: &[u8]) -> usize
     ensures value { result ≡ prefix_len (λ b. nat_eq b 32) bytes.now }
     ensures within { result ≤ length bytes.now }

@@ -95,7 +95,7 @@ impl<'a> Reader<'a> {
         }
     }
 
-    // How many points the problem line said that there are: 0 before it.
+    // How many points the problem line said that there are: 0 before it, where there are none, so that a plan that is read answers a number.
     pub fn points(&self) -> u16
         ensures { result ≡ points_of self.now.place }
     {

@@ -31,7 +31,7 @@ fn are_led(marks: &[Mark]) -> bool
 }
 
 impl Sheet {
-    // A blank sheet: no marks and no letter. It has room for the marks of 2,048 tracks.
+    // A blank sheet: no marks, and the letter 0, which is not asked for before there are marks. It has room for the marks of 2,048 tracks.
     pub fn blank(heap: Global) -> Result<Sheet, AllocError>
         ensures marks { IfOk result (λ s. sheet_marks s ≡ []) }
         ensures letter { IfOk result (λ s. sheet_letter s ≡ 0) }

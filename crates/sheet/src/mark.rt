@@ -1,4 +1,6 @@
 // What a sheet says of one track, and why marks make no sheet.
+ghost use Rattle.std.specs.Prelude.{Some};
+
 use std::error::Error;
 use std::fmt;
 
@@ -20,6 +22,10 @@ pub enum MarksError {
 }
 
 impl fmt::Display for MarksError {
+    ghost use Rattle.sheet.specs.Errors.{error_text};
+
+    ghost output = { λ error. Some (error_text error) };
+
     fn fmt<W: fmt::Write>(&self, f: &mut fmt::Formatter<W>) -> fmt::Result {
         match self {
             MarksError::TooMany => write!(f, "more than 2,048 marks"),

@@ -74,12 +74,11 @@ impl Network for Table {
     }
 
     fn ends(&self, track: usize) -> Option<(u16, u16)> {
-        let record = self.records.get(track)?;
-        Some((record.first, record.second))
+        self.records.get(track).map(|record| record.ends())
     }
 
     fn is_open(&self, track: usize) -> bool {
-        self.records.get(track).is_some_and(|record| !record.shut)
+        self.records.get(track).is_some_and(|record| record.is_open())
     }
 
     // Lends the one record of the track to the function that sets its state.

@@ -118,7 +118,7 @@ fn a_list_of_another_length(rt: HostRuntime) -> Result<(), Fail> {
         &[Track::open(0, 1), Track::open(0, 1), Track::open(0, 1)],
     )?;
     let lists: [&[u64]; 3] = [&[], &[4, 5], &[4, 5, 6, 7]];
-    for list in lists.iter() {
+    for list in &lists {
         let mut labels = drawn::<Xor>(rt.alloc(), *list)?;
         let enough = label_tracks(&three, &[1, 2], labels.as_mut_slice());
         assert_eq!(rt; enough.err().map(|refusal| refusal.number()), Some(7));

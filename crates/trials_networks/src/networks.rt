@@ -71,7 +71,8 @@ fn shut_and_reopen<N: Network>(rt: &impl Abort, network: &mut N) {
     assert!(rt; network.is_open(last));
 }
 
-// Each track between these points is laid, or refused with this number.
+// Each track between these points is laid, or refused with this number. One function for these four, over a closure that calls, would have to say that
+// it may be called and what it leaves.
 fn lays(rt: &impl Abort, table: &mut Table, answers: &[(u16, u16, Option<u8>)]) {
     for (first, second, answer) in answers {
         assert_eq!(rt; number(table.lay(*first, *second)), *answer);

@@ -191,7 +191,7 @@ fn full_yard(rt: HostRuntime) -> Result<(), Fail> {
     Ok(())
 }
 
-// A table of so many groups that needs so many words, and these tracks are bridges.
+// The yard of a table has so many groups and needs so many words, and these tracks are bridges.
 fn check_bridges(
     rt: &impl Abort,
     heap: Global,

@@ -8,7 +8,7 @@ use network::track::Track;
 use sheet::mark::Mark;
 
 // The bytes, and the place behind what is put so far. What lies past their end is counted and not written, so that the same code
-// measures a text and writes it.
+// measures a text and writes it. That there is room for a text stays in contracts: each text has its own length.
 #[derive(Drop)]
 pub(crate) struct Page<'a> {
     pub(crate) bytes: &'a mut [u8],
@@ -33,6 +33,7 @@ impl Page<'_> {
         requires { self.old.at + length text.now ≤ 65536 }
         ensures { Puts self.old text.now self.new }
     {
+        // byte by byte: a copy of slices would have to work out first how many bytes have room
         for byte in text {
             if self.at < self.bytes.len() {
                 self.bytes[self.at] = *byte;

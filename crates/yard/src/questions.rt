@@ -104,6 +104,7 @@ impl Yard {
             return Err(Refusal::WrongLength);
         }
         let mut points = Partition::new();
+        // over the tracks alone: of what goes through `iter_mut().zip(..)` a proof knows nothing
         for (number, one) in self.records.iter().enumerate() {
             flags[number] = points.take_in(*one);
         }
