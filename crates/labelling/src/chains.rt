@@ -32,6 +32,7 @@ impl<'a> Chains<'a> {
     {
         let mut heads = [0; POINTS];
         let mut links = [0; TRACKS];
+        // over the tracks alone: of what goes through `iter_mut().zip(..)` a proof knows nothing
         for (number, one) in yard.tracks().iter().enumerate() {
             if !one.shut {
                 let point = end.of(*one) as usize;

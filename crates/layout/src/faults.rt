@@ -35,7 +35,7 @@ pub struct FileFault {
 }
 
 impl LineFault {
-    // The refusal of a file that has this fault.
+    // The refusal of a file that has this fault: a `From` would not say of what.
     pub fn refusal(self) -> Refusal
         ensures value { result ≡ fault_refusal self }
         ensures number { refusal_number result ≡ fault_number self }

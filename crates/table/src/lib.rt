@@ -78,7 +78,9 @@ impl Network for Table {
     }
 
     fn is_open(&self, track: usize) -> bool {
-        self.records.get(track).is_some_and(|record| record.is_open())
+        self.records
+            .get(track)
+            .is_some_and(|record| record.is_open())
     }
 
     // Lends the one record of the track to the function that sets its state.

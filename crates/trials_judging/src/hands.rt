@@ -45,7 +45,7 @@ pub(crate) fn check_marks(rt: &impl Abort, sheet: &Sheet, marks: &[Mark]) -> Res
     Ok(())
 }
 
-// The sheet has these totals.
+// The sheet has these totals, one by one: their struct would take six lines at each call.
 pub(crate) fn check_totals(
     rt: &impl Abort,
     sheet: &Sheet,
