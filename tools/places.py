@@ -88,8 +88,11 @@ def point_3():
             if re.match(r'\s*while .* < ', line):
                 yield f'{f}:{n + 1}: {line.strip()}'
             m = re.match(r'\s*for (\w+|\(\w+, \w+\)) in ', line)
-            if m and re.search(r'^\s*return (\w+);', body(f, n), re.M) and 'false' not in body(f, n) and not f.startswith('crates/trials'):
+            if m and re.search(r'^\s*return (\w+);', body(f, n), re.M) and not f.startswith('crates/trials'):
                 yield f'{f}:{n + 1}: {line.strip()} (a search)'
+            m = re.match(r'\s*for \((\w+), \w+\) in .*enumerate\(\)', line)
+            if m and re.search(r'\[' + m.group(1) + r'\]', body(f, n)):
+                yield f'{f}:{n + 1}: {line.strip()} (a second list by its number)'
 
 
 def point_4():
