@@ -25,7 +25,7 @@ fn unit_word(round: usize, number: usize) -> u64
     }
 }
 
-// The words of a round.
+// The words of a round, in an array, since judging takes no memory.
 fn unit_words(round: usize) -> [u64; TRACKS]
     ensures long { length result ≡ 2048 }
     ensures words { (i : ℕ) → i < 2048 → slice_index result i ≡ unit_word round i }

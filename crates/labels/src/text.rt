@@ -52,7 +52,7 @@ fn balance_words(balanced: bool) -> &'static str
     }
 }
 
-// The lines for a refusal, and how many words there would have to be.
+// The lines for a refusal, and how many words there would have to be. A `Display` in its place would need a type of its own for them.
 fn too_few_text(
     heap: Global,
     refusal: Refusal,

@@ -76,7 +76,7 @@ impl fmt::Display for TrackFields {
     }
 }
 
-// The line for a refusal.
+// The line for a refusal. A `Display` in its place would need a type of its own for one line.
 pub fn refused_text(heap: Global, fault: FileFault) -> Result<String, AllocError>
     ensures { IfOk result (λ s. string_bytes s ≡ refused_text (refusal_number fault.refusal) fault.line) }
 {

@@ -9,7 +9,7 @@ use std::test::Fail;
 use table::Table;
 use yard::{Class, Yard};
 
-// These tracks are in a class with this lead and size, and none is a bridge.
+// These tracks are in a class with this lead and size, and none is a bridge. The two numbers are as plain as their struct.
 fn check_class(
     rt: &impl Abort,
     yard: &Yard,
