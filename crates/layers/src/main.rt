@@ -6,6 +6,9 @@ ghost use Rattle.annex.specs.Annexed.{annexed};
 ghost use Rattle.tied.specs.Standing.{tied};
 ghost use Rattle.network.specs.Refusals.{numbered};
 ghost use Rattle.network.specs.Tracks.{open_track, state_answer, state_after};
+ghost use Rattle.network.specs.declared.track.Refusal.{Refusal};
+ghost use Rattle.network.specs.declared.stop.Stop.TheVariants.{Refused, NoMemory};
+ghost use Rattle.layers.specs.declared.Fault.TheVariants.{Memory, Answered};
 ghost use Rattle.layers.specs.Counts.{open_count};
 ghost use Rattle.layers.specs.Piles.{pile_tracks};
 
@@ -15,8 +18,42 @@ use network::Network;
 use network::stop::Stop;
 use network::track::Refusal;
 use std::alloc::Global;
+use std::io;
 use table::Table;
 use tied::Tied;
+
+// Why the program ends early. A type of its own, since the names of its cases are what is printed then.
+#[derive(Debug, Drop)]
+enum Fault {
+    Memory,
+    Answered(Refusal),
+    Io,
+}
+
+impl From<Stop> for Fault {
+    ghost from_gives = { λ stop fault. (stop ≡ NoMemory → fault ≡ Memory) × ((refusal : Refusal) → stop ≡ Refused refusal → fault ≡ Answered refusal) };
+
+    fn from(stop: Stop) -> Fault {
+        match stop {
+            Stop::Refused(refusal) => Fault::Answered(refusal),
+            Stop::NoMemory => Fault::Memory,
+        }
+    }
+}
+
+impl From<Refusal> for Fault {
+    ghost from_gives = { λ refusal fault. fault ≡ Answered refusal };
+
+    fn from(refusal: Refusal) -> Fault {
+        Fault::Answered(refusal)
+    }
+}
+
+impl From<io::Error> for Fault {
+    fn from(_: io::Error) -> Fault {
+        Fault::Io
+    }
+}
 
 // How many tracks of any network are open.
 fn open_count<N: Network>(network: &N) -> usize
@@ -91,7 +128,7 @@ fn tower(heap: Global) -> Result<usize, Stop>
 }
 
 // Tells the answer to the shutting of a track.
-fn tell_shutting(rt: &impl Print, track: usize, answer: Result<(), Refusal>) -> anyhow::Result<()> {
+fn tell_shutting(rt: &impl Print, track: usize, answer: Result<(), Refusal>) -> Result<(), Fault> {
     match answer {
         Ok(()) => println!(rt; "shut track {track}: accepted")?,
         Err(refusal) => println!(rt; "shut track {track}: {refusal}")?,
@@ -100,7 +137,7 @@ fn tell_shutting(rt: &impl Print, track: usize, answer: Result<(), Refusal>) -> 
 }
 
 // Tells the tracks of the pile, and how many are open.
-fn tell_tracks(rt: &impl Print, pile: &Annex<Tied<Table>>) -> anyhow::Result<()> {
+fn tell_tracks(rt: &impl Print, pile: &Annex<Tied<Table>>) -> Result<(), Fault> {
     let count = pile.count();
     for track in 0..count {
         if let Some((first, second)) = pile.ends(track) {
@@ -113,7 +150,7 @@ fn tell_tracks(rt: &impl Print, pile: &Annex<Tied<Table>>) -> anyhow::Result<()>
 }
 
 // Shuts a track of the pile, and again, and some beyond, and tells the answers.
-fn tell_answers(rt: &impl Print, pile: &mut Annex<Tied<Table>>) -> anyhow::Result<()> {
+fn tell_answers(rt: &impl Print, pile: &mut Annex<Tied<Table>>) -> Result<(), Fault> {
     shut_in_pile(pile, 2)?;
     let open = open_in_pile(pile);
     println!(rt; "shut track 2: accepted, {open} open")?;
@@ -124,7 +161,7 @@ fn tell_answers(rt: &impl Print, pile: &mut Annex<Tied<Table>>) -> anyhow::Resul
 }
 
 // Tells that a fan and a tied one answer alike, and the tracks of a tower.
-fn tell_fans(rt: &impl Print, heap: Global) -> anyhow::Result<()> {
+fn tell_fans(rt: &impl Print, heap: Global) -> Result<(), Fault> {
     let mut fan = Fan::new();
     let mut same = Tied::new(Fan::new());
     let both = shut_both(&mut fan, &mut same, 0);
@@ -134,7 +171,7 @@ fn tell_fans(rt: &impl Print, heap: Global) -> anyhow::Result<()> {
     Ok(())
 }
 
-fn main(rt: HostRuntime) -> anyhow::Result<()> {
+fn main(rt: HostRuntime) -> Result<(), Fault> {
     println!(rt; "a table of two tracks, with 7 standing for 1, and an annex of one track")?;
     let mut pile = build(rt.alloc())?;
     tell_tracks(&rt, &pile)?;
