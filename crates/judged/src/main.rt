@@ -4,7 +4,7 @@
 
 use judging::judge;
 use label::xor::Xor;
-use listing::{read_file, read_input, refused_text};
+use listing::{MOST_BYTES, TOO_LONG, read_file, read_input, refused_text};
 use sheet::record::Sheet;
 use std::env;
 use std::io::{Write, writer};
@@ -62,6 +62,12 @@ fn judge_plan(rt: &(impl Print + AllocGlobal), input: &[u8], labels: &[Xor]) -> 
 fn run(rt: &(impl Env + Input + Print + AllocGlobal)) -> anyhow::Result<()> {
     let labels = labels_given(rt)?;
     let input = read_input(rt.alloc(), rt.reader())?;
+    // a file that is too long is refused before memory is taken for a table
+    if input.len() > MOST_BYTES {
+        let text = refused_text(rt.alloc(), TOO_LONG)?;
+        print!(rt; "{text}")?;
+        return Ok(());
+    }
     judge_plan(rt, input.as_slice(), labels.as_slice())
 }
 

@@ -1,6 +1,8 @@
 -- Labels of three kinds that the same words draw. Assumes nothing.
 use Rattle.std.specs.Prelude.{◌≡◌, ℕ, ◌<◌, ◌≤◌, List, length, slice_index}
 use Rattle.network.specs.Refusals.{refusal_number}
+use Rattle.network.specs.declared.stop.Stop.{Stop}
+use Rattle.network.specs.declared.stop.Stop.TheVariants.{Refused, NoMemory}
 use Rattle.network.specs.declared.track.Refusal.{Refusal}
 use Rattle.network.specs.declared.track.Track.{Track}
 use Rattle.label.specs.Groups.{Group}
@@ -21,6 +23,11 @@ pub record Drew {K : Type 0} (G : Group K) (y : List Track) (drawn : ℕ → K) 
 -- why there are no labels: 8, fewer words than needed
 abbrev pub TooFew : List Track → ℕ → Refusal → Type 0
 TooFew y given r = (refusal_number r ≡ 8) × ((n : ℕ) → WordsNeeded y n → given < n)
+
+-- why there are no labels: too few words, or want of memory
+abbrev pub Stopped : List Track → ℕ → Stop → Type 0
+Stopped y given (Refused r) = TooFew y given r
+Stopped y given NoMemory = Unit {0}
 
 -- a label of each kind for each track
 pub record OneEach (y : List Track) (xs : List Xor) (ss : List Sum32) (bs : List (Both Xor Sum32)) : Type 0 where

@@ -3,14 +3,14 @@ ghost use Rattle.std.specs.Prelude.{◌≡◌, length, IfOk, vec_len, Decides, M
 ghost use Rattle.label.specs.Kinds.{xors, sums, pairs};
 ghost use Rattle.circulation.specs.Labels.{Balanced};
 ghost use Rattle.yard.specs.Meaning.{yard_tracks};
-ghost use Rattle.labels.specs.Draws.{Drew, TooFew, Labels, OneEach};
+ghost use Rattle.labels.specs.Draws.{Drew, Stopped, Labels};
 
 use label::Label;
 use label::both::Both;
 use label::sum::Sum32;
 use label::xor::Xor;
 use labelling::{balances, label_tracks};
-use network::track::Refusal;
+use network::stop::Stop;
 use std::alloc::{AllocError, Global};
 use yard::Yard;
 
@@ -29,35 +29,25 @@ fn zeros<K: Label>(heap: Global, yard: &Yard) -> Result<Vec<K>, AllocError>
     yard.tracks().iter().map(|_| K::zero()).collect(heap)
 }
 
-// Draws the labels of one kind from words, or refuses with 8 where there are too few.
-fn draw<K: Label>(yard: &Yard, words: &[u64], labels: &mut Vec<K>) -> Result<(), Refusal>
-    requires { vec_len labels.old ≡ length (yard_tracks yard.now) }
-    ensures { MatchResult result (λ _. Drew K.group (yard_tracks yard.now) (λ i. K.drawn (slice_index words.now i)) (length words.now) labels.new.items) (λ r. TooFew (yard_tracks yard.now) (length words.now) r) }
+// The labels of one kind that words draw, or 8 where there are too few.
+fn draw<K: Label>(heap: Global, yard: &Yard, words: &[u64]) -> Result<Vec<K>, Stop>
+    ensures { MatchResult result (λ v. Drew K.group (yard_tracks yard.now) (λ i. K.drawn (slice_index words.now i)) (length words.now) v.items) (Stopped (yard_tracks yard.now) (length words.now)) }
 {
+    let mut labels = zeros(heap, yard)?;
     label_tracks(yard, words, labels.as_mut_slice())?;
-    Ok(())
+    Ok(labels)
 }
 
 impl Drawn {
-    // Labels of each kind that are all zero.
-    pub(crate) fn zero(heap: Global, yard: &Yard) -> Result<Drawn, AllocError>
-        ensures { IfOk result (λ d. OneEach (yard_tracks yard.now) d.xors.items d.sums.items d.pairs.items) }
+    // The labels of each kind that words draw, or 8 where there are too few. Each list is drawn before the next one is made, so that no memory
+    // is taken for more than one of them where words are refused.
+    pub(crate) fn of(heap: Global, yard: &Yard, words: &[u64]) -> Result<Drawn, Stop>
+        ensures { MatchResult result (λ d. Labels words.now (yard_tracks yard.now) d.xors.items d.sums.items d.pairs.items) (Stopped (yard_tracks yard.now) (length words.now)) }
     {
-        let xors = zeros(heap, yard)?;
-        let sums = zeros(heap, yard)?;
-        let pairs = zeros(heap, yard)?;
+        let xors = draw(heap, yard, words)?;
+        let sums = draw(heap, yard, words)?;
+        let pairs = draw(heap, yard, words)?;
         Ok(Drawn { xors, sums, pairs })
-    }
-
-    // Draws the labels of each kind from words, or refuses with 8 where there are too few.
-    pub(crate) fn draw(&mut self, yard: &Yard, words: &[u64]) -> Result<(), Refusal>
-        requires { OneEach (yard_tracks yard.now) self.old.xors.items self.old.sums.items self.old.pairs.items }
-        ensures { MatchResult result (λ _. Labels words.now (yard_tracks yard.now) self.new.xors.items self.new.sums.items self.new.pairs.items) (λ r. TooFew (yard_tracks yard.now) (length words.now) r) }
-    {
-        draw(yard, words, &mut self.xors)?;
-        draw(yard, words, &mut self.sums)?;
-        draw(yard, words, &mut self.pairs)?;
-        Ok(())
     }
 
     // Whether the labels of each kind balance.

@@ -12,7 +12,8 @@ use crate::drawing::Drawn;
 use label::both::Both;
 use label::sum::Sum32;
 use label::xor::Xor;
-use listing::{TrackFields, read_file, refused_text};
+use listing::{MOST_BYTES, TOO_LONG, TrackFields, read_file, refused_text};
+use network::stop::Stop;
 use network::track::{Refusal, Track};
 use std::alloc::{AllocError, Global};
 use table::Table;
@@ -106,10 +107,10 @@ fn labels_text(heap: Global, yard: &Yard, words: &[u64]) -> Result<String, Alloc
     ensures { IfOk result (λ t. LabelsText words.now (yard_tracks yard.now) (string_bytes t)) }
 {
     let needed = yard.words_needed();
-    let mut drawn = Drawn::zero(heap, yard)?;
-    match drawn.draw(yard, words) {
-        Ok(()) => drawn_text(heap, yard, &drawn, needed, words),
-        Err(refusal) => too_few_text(heap, refusal, needed, words.len()),
+    match Drawn::of(heap, yard, words) {
+        Ok(drawn) => drawn_text(heap, yard, &drawn, needed, words),
+        Err(Stop::Refused(refusal)) => too_few_text(heap, refusal, needed, words.len()),
+        Err(Stop::NoMemory) => Err(AllocError),
     }
 }
 
@@ -117,6 +118,10 @@ fn labels_text(heap: Global, yard: &Yard, words: &[u64]) -> Result<String, Alloc
 pub fn printed_text(heap: Global, input: &[u8], words: &[u64]) -> Result<String, AllocError>
     ensures { IfOk result (λ t. Printed words.now input.now (string_bytes t)) }
 {
+    // a file that is too long is refused before memory is taken for a table
+    if input.len() > MOST_BYTES {
+        return refused_text(heap, TOO_LONG);
+    }
     let mut table = Table::new(heap)?;
     match read_file(input, &mut table) {
         Ok(_) => labels_text(heap, &Yard::of(heap, &table)?, words),

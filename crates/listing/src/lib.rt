@@ -131,6 +131,10 @@ pub fn table_text<N: Network>(heap: Global, network: &N, points: u16) -> Result<
 pub fn printed_text(heap: Global, input: &[u8]) -> Result<String, AllocError>
     ensures { IfOk result (λ s. Printed input.now (string_bytes s)) }
 {
+    // a file that is too long is refused before memory is taken for a table
+    if MOST_BYTES < input.len() {
+        return refused_text(heap, TOO_LONG);
+    }
     let mut table = Table::new(heap)?;
     match read_file(input, &mut table) {
         Ok(points) => table_text(heap, &table, points),

@@ -6,10 +6,15 @@ use Rattle.labels.specs.Draws.{Drew}
 use Rattle.labels.proofs.Steps.{too_few}
 use Rattle.labels.proofs.drawing.draw.Goals as goal
 
+pub returns-in_err-labels : goal.returns-in_err-labels
+returns-in_err-labels g c =
+    let p = err_from_is_err_and c.from_residual.result c.from_residual.ensures.1 in
+    rw (p.1, p.2) tt
+
 pub returns-in_err-label_tracks : goal.returns-in_err-label_tracks
 returns-in_err-label_tracks g c =
-    let p = err_from_is_err_and c.from_residual.result c.from_residual.ensures.1 in
-    rw (p.1, p.2) (too_few (yard_tracks c.args.yard.now) _ _ _ (c.as_mut_slice.ensures.len ∙ c.requires) c.in_err-label_tracks.ensures.0)
+    let p = err_from_is_err_and c.from_residual-in_err-label_tracks.result c.from_residual-in_err-label_tracks.ensures.1 in
+    rw (p.1, p.2) (too_few (yard_tracks c.args.yard.now) _ _ _ (c.as_mut_slice.ensures.len ∙ c.in_ok-labels.ensures) c.in_err-label_tracks.ensures.0)
 
 pub returns : goal.returns
 returns g c =
