@@ -3,7 +3,6 @@ ghost use Rattle.std.specs.Prelude.{◌≡◌, ◌+◌, ◌<◌, ◌≤◌, [], 
 ghost use Rattle.written.specs.Lines.{decimal, mark_word, lead_field, line, sheet_text};
 ghost use Rattle.written.specs.Pages.{Puts};
 
-use itoa::Buffer;
 use network::track::Track;
 use sheet::mark::Mark;
 
@@ -42,13 +41,18 @@ impl Page<'_> {
         }
     }
 
-    // Puts the digits of a number.
+    // Puts the digits of a number above 0, and nothing for 0. By hand: the library's digits come with a crate that would have to be
+    // trusted, or with a `Display`, which could fail by its contract.
     fn put_number(&mut self, number: usize)
-        requires { (self.old.at + 5 ≤ 65536) × (0 < number) × (number < 100000) }
+        requires { (self.old.at + 5 ≤ 65536) × (number < 100000) }
         ensures put { Puts self.old (decimal number) self.new }
         ensures short { self.new.at ≤ self.old.at + 5 }
     {
-        self.put(Buffer::new().format(number).as_bytes());
+        if number == 0 {
+            return;
+        }
+        self.put_number(number / 10);
+        self.put(&[b'0' + (number % 10) as u8]);
     }
 
     // Puts a number one higher than it is inside, and a comma.
