@@ -15,11 +15,12 @@ use yard::{Yard, is_chord};
 fn count_chords(tracks: &[Track], flags: &[bool]) -> usize
     ensures { result ≡ count_by (λ p. not p.0.shut && not p.1) (zip tracks.now flags.now) }
 {
+    // as a sum of zeros and ones, without a branch: `filter` and `count` take one at each track, mispredicted at every fifth of a random yard
     tracks
         .iter()
         .zip(flags)
-        .filter(|(one, flag)| is_chord(**one, **flag))
-        .count()
+        .map(|(one, flag)| usize::from(is_chord(*one, *flag)))
+        .sum()
 }
 
 // What one of the words draws.
